@@ -1,0 +1,5 @@
+pub mod Tree
+pub mod Spelling
+pub mod Reading
+pub mod Hashing
+pub mod Numbers

@@ -1,0 +1,10 @@
+-- A CLVM tree is an atom, which is a list of bytes, or a pair of two trees. Source: CLVM reference.
+use Rattle.std.specs.Prelude.{ℕ, List, []}
+
+pub data Tree : Type 0 where
+  Atom : List ℕ → Tree
+  Pair : Tree → Tree → Tree
+
+-- the empty atom
+abbrev pub nil : Tree
+nil = Atom []
