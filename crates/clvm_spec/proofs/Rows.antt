@@ -28,17 +28,17 @@ number_81f9 : number (0xf9 ∷ []) ≡ negsuc 6
 number_81f9 = refl
 
 short_1000 : shortest_atom (pos 1000) ≡ 3 ∷ 0xe8 ∷ []
-unfolding without_sign_bytes
+unfolding without_sign_bytes shortest_atom
 short_1000 = refl
 
 short_128 : shortest_atom (pos 128) ≡ 0 ∷ 128 ∷ []
-unfolding without_sign_bytes
+unfolding without_sign_bytes shortest_atom
 short_128 = refl
 
 short_-1 : shortest_atom (negsuc 0) ≡ 255 ∷ []
-unfolding without_sign_bytes
+unfolding without_sign_bytes shortest_atom
 short_-1 = refl
 
 short_0 : shortest_atom (pos 0) ≡ []
-unfolding without_sign_bytes
+unfolding without_sign_bytes shortest_atom
 short_0 = refl

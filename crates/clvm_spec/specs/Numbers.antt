@@ -26,5 +26,5 @@ without_sign_bytes (b ∷ []) = if b == 0 then [] else b ∷ []
 without_sign_bytes (b ∷ c ∷ bytes) = if is_sign_byte b c then without_sign_bytes (c ∷ bytes) else b ∷ c ∷ bytes
 
 -- the shortest atom of a number of 128 bits
-abbrev pub shortest_atom : ℤ → List ℕ
+unfoldable pub shortest_atom : ℤ → List ℕ
 shortest_atom n = without_sign_bytes (to_be_bytes w128 (cast_unsigned w128 n))
