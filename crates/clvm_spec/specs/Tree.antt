@@ -1,5 +1,5 @@
 -- A CLVM tree is an atom, which is a list of bytes, or a pair of two trees. Source: CLVM reference.
-use Rattle.std.specs.Prelude.{ℕ, List, []}
+use Rattle.std.specs.Prelude.{ℕ, List, [], ◌∷◌}
 
 pub data Tree : Type 0 where
   Atom : List ℕ → Tree
@@ -8,3 +8,8 @@ pub data Tree : Type 0 where
 -- the empty atom
 abbrev pub nil : Tree
 nil = Atom []
+
+-- the proper list of trees: pairs whose rests end in nil
+abbrev pub list_tree : List Tree → Tree
+list_tree [] = nil
+list_tree (tree ∷ trees) = Pair tree (list_tree trees)

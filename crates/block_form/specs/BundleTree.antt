@@ -1,0 +1,33 @@
+-- The trees of spends, of their generator and of a bundle. Source: the generator is that of the Chia documentation
+-- in its quoted form; the bundle's id is this project's own.
+use Rattle.std.specs.Prelude.{pos, List, [], ◌∷◌, map}
+use Rattle.clvm_spec.specs.Tree.{Tree, Atom, Pair, list_tree}
+use Rattle.clvm_spec.specs.Numbers.{shortest_atom}
+use Rattle.clvm_spec.specs.Hashing.{tree_hash}
+use Rattle.coin_facts.specs.declared.hash32.Hash32.{Hash32}
+use Rattle.block_form.specs.declared.spend.Spend.{Spend}
+use Rattle.block_form.specs.declared.attested.Signed.{Signed}
+use Rattle.block_form.specs.declared.bundle.Bundle.{Bundle}
+use Rattle.block_form.specs.Spelled.{spelled_tree}
+
+-- (parent puzzle amount solution)
+abbrev pub spend_tree : Spend → Tree
+spend_tree spend = list_tree (Atom spend.coin.parent.bytes ∷ spelled_tree spend.puzzle ∷ Atom (shortest_atom (pos spend.coin.amount)) ∷ spelled_tree spend.solution ∷ [])
+
+abbrev pub spends_tree : List Spend → Tree
+spends_tree spends = list_tree (map spend_tree spends)
+
+-- (q ((parent puzzle amount solution) ..))
+abbrev pub generator : List Spend → Tree
+generator spends = list_tree (Atom (1 ∷ []) ∷ spends_tree spends ∷ [])
+
+-- (key . message)
+abbrev pub signed_tree : Signed → Tree
+signed_tree signed = Pair (Atom signed.key) (Atom signed.message)
+
+abbrev pub attested_tree : List Signed → Tree
+attested_tree attested = list_tree (map signed_tree attested)
+
+-- the tree hash of the list of spends and the list of what is attested, as a pair
+unfoldable pub bundle_id : Bundle → Hash32
+bundle_id bundle = record { bytes = tree_hash (Pair (spends_tree bundle.spends) (attested_tree bundle.attested)) }

@@ -1,0 +1,4 @@
+pub mod Chain
+pub mod Runs
+pub mod Conditions
+pub mod Judgement

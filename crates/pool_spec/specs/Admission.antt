@@ -1,0 +1,45 @@
+-- Admission of a bundle to the pool. Source: Chia documentation of the mempool; the answers are this project's own.
+use Rattle.std.specs.Prelude.{ℕ, ◌+◌, List, [], ◌∷◌, ◌++◌, nat_lt, if◌then◌else◌}
+use Rattle.std.specs.List.{sum_by}
+use Rattle.coin_facts.specs.declared.hash32.Hash32.{Hash32}
+use Rattle.block_form.specs.declared.bundle.Bundle.{Bundle}
+use Rattle.block_form.specs.BundleTree.{bundle_id}
+use Rattle.chain_spec.specs.Chain.{Chain}
+use Rattle.chain_spec.specs.Judgement.{Verdict, Fine, Broken, cost_of, judgement}
+use Rattle.pool_spec.specs.declared.limits.Limits.{Limits}
+
+-- a chain, its limits, and the bundles in the order in which they were admitted
+pub record PoolState : Type 0 where
+  pub chain : Chain
+  pub limits : Limits
+  pub bundles : List Bundle
+
+pub data Admission : Type 0 where
+  -- the bundle's id, fee and cost, and the ids of the bundles that it replaces
+  Admitted : (id : Hash32) (fee cost : ℕ) (replaced : List Hash32) → Admission
+  Refused : (rule place : ℕ) → Admission
+
+-- what the bundles of the pool cost together
+abbrev pub pool_cost : List Bundle → ℕ
+pool_cost bundles = sum_by (λ bundle. cost_of bundle.spends) bundles
+
+-- Rule 34: with this bundle the pool would cost more than it may.
+abbrev pub within_capacity : PoolState → Bundle → ℕ → ℕ → Admission
+within_capacity state bundle cost fee =
+    if nat_lt state.limits.pool_cost (pool_cost state.bundles + cost) then Refused 34 0 else Admitted (bundle_id bundle) fee cost []
+
+abbrev pub admission_by : PoolState → Bundle → Verdict → Admission
+admission_by state bundle (Fine cost fee) = within_capacity state bundle cost fee
+admission_by state bundle (Broken rule place) = Refused rule place
+
+-- The bundle's spends are judged on the chain, and then the pool's capacity is looked at.
+abbrev pub admission : PoolState → Bundle → Admission
+admission state bundle = admission_by state bundle (judgement state.chain bundle.spends state.limits.max_cost)
+
+-- An admitted bundle goes last; a refusal changes nothing.
+abbrev pub state_after : PoolState → Bundle → Admission → PoolState
+state_after state bundle (Admitted id fee cost replaced) = record state { bundles = state.bundles ++ bundle ∷ [] }
+state_after state bundle (Refused rule place) = state
+
+abbrev pub after_admission : PoolState → Bundle → PoolState
+after_admission state bundle = state_after state bundle (admission state bundle)

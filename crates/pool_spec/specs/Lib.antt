@@ -1,0 +1,4 @@
+pub mod Payment
+pub mod Admission
+pub mod Step
+pub mod History
