@@ -42,7 +42,7 @@ impl Attested {
     }
 
     /// Adds a message at the end. Without memory nothing changes.
-    pub fn push(&mut self, signed: Signed) -> Result<(), OutOfMemory>
+    pub fn push(&mut self, _alloc: Global, signed: Signed) -> Result<(), OutOfMemory>
         requires few { length self.old + 1 < 2 ^ 32 }
         requires attestable { IsAttestable signed }
         ensures ok { OnOk result (self.new ≡ self.old ++ signed ∷ []) }

@@ -33,7 +33,7 @@ impl Spends {
     }
 
     /// Adds a spend at the end. Without memory nothing changes.
-    pub fn push(&mut self, spend: Spend) -> Result<(), OutOfMemory>
+    pub fn push(&mut self, _alloc: Global, spend: Spend) -> Result<(), OutOfMemory>
         requires { length self.old + 1 < 2 ^ 32 }
         ensures ok { OnOk result (self.new ≡ self.old ++ spend ∷ []) }
         ensures out_of_memory { OnErr result (self.new ≡ self.old) }

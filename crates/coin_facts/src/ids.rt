@@ -32,7 +32,7 @@ impl Ids {
     }
 
     /// Adds an id at the end. Without memory nothing changes.
-    pub fn push(&mut self, id: Hash32) -> Result<(), OutOfMemory>
+    pub fn push(&mut self, _alloc: Global, id: Hash32) -> Result<(), OutOfMemory>
         requires { length self.old + 1 < 2 ^ 32 }
         ensures ok { OnOk result (self.new ≡ self.old ++ id ∷ []) }
         ensures out_of_memory { OnErr result (self.new ≡ self.old) }
