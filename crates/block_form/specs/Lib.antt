@@ -1,3 +1,4 @@
 pub mod Spelled
+pub mod SpendView
 pub mod Attestable
 pub mod BundleTree

@@ -1,3 +1,4 @@
+pub mod LimitsView
 pub mod Payment
 pub mod Admission
 pub mod Step

@@ -1,0 +1,2 @@
+//! The definitions of a session's text: the session that an input is, and what is written for a history.
+#![tactic(auto)]
