@@ -1,0 +1,3 @@
+pub mod AddedLaws
+pub mod HashLaws
+pub mod Refusals

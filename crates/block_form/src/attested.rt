@@ -1,4 +1,4 @@
-ghost use Rattle.std.specs.Prelude.{◌≡◌, ◌+◌, ◌<◌, ◌^◌, [], ◌∷◌, ◌++◌, length, OnOk, OnErr};
+ghost use Rattle.std.specs.Prelude.{◌≡◌, ◌+◌, ◌<◌, ◌^◌, ◌↔◌, [], ◌∷◌, ◌++◌, length, IsTrue, OnOk, OnErr};
 ghost use Rattle.block_form.specs.Attestable.{IsAttestable, AreAttestable};
 
 use coin_facts::{Bytes, OutOfMemory};
@@ -50,6 +50,13 @@ impl Attested {
     {
         self.items.push(signed)?;
         Ok(())
+    }
+
+    /// Whether one more has room.
+    pub fn has_room(&self) -> bool
+        ensures { IsTrue result ↔ (length self.now + 1 < 2 ^ 32) }
+    {
+        self.items.len() < u32::MAX as usize
     }
 
     /// The messages, lent.

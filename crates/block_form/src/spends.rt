@@ -1,4 +1,4 @@
-ghost use Rattle.std.specs.Prelude.{◌≡◌, ◌+◌, ◌<◌, ◌^◌, [], ◌∷◌, ◌++◌, length, OnOk, OnErr};
+ghost use Rattle.std.specs.Prelude.{◌≡◌, ◌+◌, ◌<◌, ◌^◌, ◌↔◌, [], ◌∷◌, ◌++◌, length, IsTrue, OnOk, OnErr};
 
 use crate::Spend;
 use coin_facts::OutOfMemory;
@@ -40,6 +40,13 @@ impl Spends {
     {
         self.items.push(spend)?;
         Ok(())
+    }
+
+    /// Whether one more has room.
+    pub fn has_room(&self) -> bool
+        ensures { IsTrue result ↔ (length self.now + 1 < 2 ^ 32) }
+    {
+        self.items.len() < u32::MAX as usize
     }
 
     /// The spends, lent.

@@ -1,1 +1,18 @@
 mod Rows
+pub mod TokenLaws
+pub mod FrontLaws
+pub mod NumberLaws
+pub mod SpellingLaws
+pub mod PrefixLaws
+pub mod SpelledLaws
+pub mod FaultLaws
+pub mod ShortestLaws
+pub mod WholeLaws
+pub mod Cases
+mod EvaluationRows
+mod OperatorRows
+mod TextRows
+pub mod Steady
+pub mod Steps
+pub mod OperatorCosts
+pub mod Floor

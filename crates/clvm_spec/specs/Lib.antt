@@ -3,3 +3,16 @@ pub mod Spelling
 pub mod Reading
 pub mod Hashing
 pub mod Numbers
+pub mod TreeCode
+pub mod Faults
+pub mod Laws
+pub mod ProperList
+pub mod Outcomes
+pub mod Path
+pub mod Arithmetic
+pub mod Operators
+pub mod OperatorTable
+pub mod Evaluation
+pub mod Tokens
+pub mod Text
+pub mod FuelLaws

@@ -80,10 +80,18 @@ abbrev pub and_then : Read → (Tree → List ℕ → Read) → Read
 and_then (Found tree rest) go = go tree rest
 and_then (Faulty flaw rest) go = Faulty flaw rest
 
+-- a pair of this first, and of its rest as it is read
+abbrev pub with_first : Tree → Read → Read
+with_first first rest = and_then rest (λ second last. Found (Pair first second) last)
+
+-- a pair of its first as it is read, and of what is read behind
+abbrev pub with_both : (List ℕ → Read) → Read → Read
+with_both read first = and_then first (λ tree more. with_first tree (read more))
+
 abbrev pub from_token : (List ℕ → Read) → List ℕ → Front → Read
 from_token read bytes (Flawed flaw) = Faulty flaw bytes
 from_token read bytes (Took (Leaf atom) rest) = Found (Atom atom) rest
-from_token read bytes (Took Open rest) = and_then (read rest) (λ first more. and_then (read more) (λ second last. Found (Pair first second) last))
+from_token read bytes (Took Open rest) = with_both read (read rest)
 
 -- A pair takes a byte, so no tree nests deeper than there are bytes, and the first number only bounds the recursion.
 abbrev pub tree_within : ℕ → List ℕ → Read

@@ -1,6 +1,16 @@
-//! The definitions of the machine: trees, their spelling, their hash and the numbers of atoms.
+//! The definitions of the machine: trees, their spelling, their hash and the numbers of atoms; paths,
+//! operators, the costed evaluation, and the text form.
 #![tactic(auto)]
 
+pub mod arithmetic;
+pub mod codec_laws;
+pub mod fuel;
+pub mod fuel_laws;
 mod numbers;
+pub mod scan_kind;
+#[cfg(test)]
+mod tests;
 
+pub use fuel::{Fuel, Which};
 pub use numbers::shortest_bytes;
+pub use scan_kind::ScanKind;

@@ -42,3 +42,18 @@ impl Bytes {
         })
     }
 }
+
+#[cfg(test)]
+mod tests {
+    use super::*;
+    use std::test::Fail;
+
+    #[test]
+    fn a_copy_has_equal_bytes(rt: HostRuntime) -> Result<(), Fail> {
+        let bytes = Bytes::from_vec(vec![in rt.alloc(); 7, 0, 255]?);
+        let copied = bytes.copy(rt.alloc())?;
+        assert_eq!(rt; copied.as_slice(), [7, 0, 255].as_slice());
+        assert_eq!(rt; bytes.as_slice(), [7, 0, 255].as_slice());
+        Ok(())
+    }
+}

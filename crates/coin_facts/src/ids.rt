@@ -1,4 +1,4 @@
-ghost use Rattle.std.specs.Prelude.{◌≡◌, ◌+◌, ◌<◌, ◌^◌, [], ◌∷◌, ◌++◌, length, OnOk, OnErr};
+ghost use Rattle.std.specs.Prelude.{◌≡◌, ◌+◌, ◌<◌, ◌^◌, ◌↔◌, [], ◌∷◌, ◌++◌, length, IsTrue, OnOk, OnErr};
 
 use crate::{Hash32, OutOfMemory};
 use std::alloc::Global;
@@ -41,11 +41,35 @@ impl Ids {
         Ok(())
     }
 
+    /// Whether one more has room.
+    pub fn has_room(&self) -> bool
+        ensures { IsTrue result ↔ (length self.now + 1 < 2 ^ 32) }
+    {
+        self.items.len() < u32::MAX as usize
+    }
+
     /// The ids, lent.
     pub fn as_slice(&self) -> &[Hash32]
         ensures value { result.now ≡ self.now }
         ensures few { length self.now < 2 ^ 32 }
     {
         self.items.as_slice()
+    }
+}
+
+#[cfg(test)]
+mod tests {
+    use super::*;
+    use std::test::Fail;
+
+    #[test]
+    fn ids_stand_in_order(rt: HostRuntime) -> Result<(), Fail> {
+        let first = Hash32 { bytes: [1; 32] };
+        let second = Hash32 { bytes: [2; 32] };
+        let mut ids = Ids::new(rt.alloc());
+        ids.push(rt.alloc(), first)?;
+        ids.push(rt.alloc(), second)?;
+        assert_eq!(rt; ids.as_slice(), [first, second].as_slice());
+        Ok(())
     }
 }

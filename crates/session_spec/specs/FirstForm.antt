@@ -1,5 +1,5 @@
 -- The sessions that are built so far: of one admission and of looks at coins. Source: this project's own.
-use Rattle.std.specs.Prelude.{ℕ, ◌&&◌, ◌==◌, List, [], ◌∷◌, length, map, take, drop, nat_le, Bool, false, not, is_none, Option, Some, None, if◌then◌else◌, codes}
+use Rattle.std.specs.Prelude.{ℕ, ◌&&◌, ◌==◌, List, [], ◌∷◌, ◌++◌, length, map, take, drop, nat_le, Bool, false, not, is_none, Option, Some, None, if◌then◌else◌, codes}
 use Rattle.std.specs.List.{prefix_len, repeat}
 use Rattle.std.specs.Str.{bytes_eq}
 use Rattle.serde_json.specs.Data.{Data}
@@ -8,8 +8,7 @@ use Rattle.coin_facts.specs.declared.hash32.Hash32.{Hash32}
 use Rattle.coin_facts.specs.declared.coin.Coin.{Coin}
 use Rattle.coin_facts.specs.CoinId.{coin_id}
 use Rattle.block_form.specs.declared.bundle.Bundle.{Bundle}
-use Rattle.chain_spec.specs.Chain.{Chain}
-use Rattle.chain_spec.specs.Judgement.{repeat_behind}
+use Rattle.chain_spec.specs.Chain.{Chain, is_in_chain}
 use Rattle.pool_spec.specs.declared.limits.Limits.{Limits}
 use Rattle.pool_spec.specs.Payment.{is_payment}
 use Rattle.pool_spec.specs.Step.{Admit, LookUp}
@@ -72,11 +71,14 @@ default_limits = record { max_cost = 11_000_000_000; pool_cost = 110_000_000_000
 abbrev pub session : Chain → Bundle → List Hash32 → Session
 session chain bundle ids = record { chain = chain; limits = default_limits; commands = Admit bundle ∷ map LookUp ids }
 
-abbrev pub are_distinct : List Coin → Bool
-are_distinct coins = is_none (repeat_behind [] 0 (map coin_id coins))
+-- The coins are added one after another, and each has an id that no earlier one has.
+abbrev pub start_coins : Chain → List Coin → Option Chain
+start_coins chain [] = Some chain
+start_coins chain (coin ∷ coins) =
+    if is_in_chain chain (coin_id coin) then None else start_coins (record chain { coins = chain.coins ++ coin ∷ [] }) coins
 
 abbrev pub if_payment : Chain → Bundle → List Hash32 → Option Session
-if_payment chain bundle ids = if are_distinct chain.coins && is_payment chain bundle then Some (session chain bundle ids) else None
+if_payment chain bundle ids = if is_payment chain bundle then Some (session chain bundle ids) else None
 
 -- The commands are one admission, and then looks at coins.
 abbrev pub with_commands : Chain → List Data → Option Session
@@ -90,7 +92,8 @@ with_commands chain (line ∷ lines) = do
 abbrev pub with_coins : Chain → ℕ → List Data → Option Session
 with_coins chain count lines = do
   coins ← all_of coin_of (take count lines)
-  with_commands (record chain { coins = coins }) (drop count lines)
+  started ← start_coins chain coins
+  with_commands started (drop count lines)
 
 abbrev pub session_of_lines : List Data → Option Session
 session_of_lines [] = None

@@ -1,0 +1,13 @@
+//! Tables of cases: the place of a row by its code and by its name, and the table of the CLVM operators.
+#![tactic(auto)]
+
+pub mod look_up;
+pub mod operator_table;
+pub mod row;
+
+pub use look_up::{find, find_name};
+pub use operator_table::{code_of, name_of, operators};
+pub use row::{Case, Row};
+
+#[cfg(test)]
+mod tests;

@@ -1,0 +1,43 @@
+use super::{Row, code_of, find, find_name, name_of, operators};
+
+const fn row(code: u8, name: &'static str) -> Row {
+    Row {
+        code,
+        name,
+        arity_low: 0,
+        arity_high: 255,
+        cost: 0,
+        kind: 0,
+    }
+}
+
+#[test]
+fn finds_rows(rt: HostRuntime) {
+    let rows = operators();
+    for (code, place) in [
+        (1, Some(0)),
+        (15, None),
+        (16, Some(14)),
+        (27, Some(25)),
+        (28, None),
+        (34, Some(28)),
+        (0, None),
+        (255, None),
+    ] {
+        assert_eq!(rt; find(rows, code), place, "at {code}");
+    }
+    assert!(rt; find_name(rows, "sha256") == Some(10));
+    assert!(rt; find_name(rows, "sha") == None);
+    let few = [row(3, "same"), row(5, "same"), row(9, "other")];
+    assert!(rt; find_name(&few, "same") == Some(0));
+    assert!(rt; find_name(&few, "other") == Some(2));
+    assert!(rt; rows[24].cost == 100 && rows[24].arity_high == 255);
+}
+
+#[test]
+fn names_operators(rt: HostRuntime) {
+    assert!(rt; name_of(10) == Some(">s"));
+    assert!(rt; name_of(15) == None);
+    assert!(rt; code_of("lognot") == Some(27));
+    assert!(rt; code_of("softfork") == None);
+}

@@ -1,0 +1,58 @@
+-- How the cases by computation are written: trees by their text, fuel by what is used of it.
+use Rattle.std.specs.Prelude.{◌≡◌, ℕ, ◌-◌, codes, unwrap_or, option_and_then}
+use Prim.Native.String.{String}
+use Rattle.clvm_spec.specs.declared.fuel.Fuel.{Fuel}
+use Rattle.clvm_spec.specs.declared.fuel.Which.{Which}
+use Rattle.clvm_spec.specs.Tree.{Tree, nil}
+use Rattle.clvm_spec.specs.Outcomes.{Why, Outcome, Done, Failed, Spent, Wide}
+use Rattle.clvm_spec.specs.Evaluation.{run_outcome}
+use Rattle.clvm_spec.specs.Reading.{tree_of}
+use Rattle.clvm_spec.specs.Tokens.{hex_bytes}
+use Rattle.clvm_spec.specs.Text.{Scanned, Scans, Unreadable, Unnamed, LeftOver, scanned}
+
+abbrev pub form : Scanned → Tree
+form (Scans tree) = tree
+form (Unreadable kind place) = nil
+form (Unnamed place) = nil
+form (LeftOver place) = nil
+
+abbrev pub tree : String → Tree
+tree text = form (scanned (codes text))
+
+-- the tree of a spelling in hexadecimal digits
+abbrev pub spelled : String → Tree
+spelled digits = unwrap_or (option_and_then tree_of (hex_bytes (codes digits))) nil
+
+abbrev pub ample : Fuel
+ample = record { cost = 11_000_000_000; pairs = 16_777_216; bytes = 134_217_728; depth = 1_048_576 }
+
+abbrev pub with_cost : ℕ → Fuel
+with_cost cost = record ample { cost = cost }
+
+abbrev pub with_pairs : ℕ → Fuel
+with_pairs pairs = record ample { pairs = pairs }
+
+abbrev pub with_bytes : ℕ → Fuel
+with_bytes bytes = record ample { bytes = bytes }
+
+abbrev pub with_depth : ℕ → Fuel
+with_depth depth = record ample { depth = depth }
+
+abbrev pub less : ℕ → ℕ → ℕ → Fuel → Fuel
+less cost pairs bytes fuel = record fuel { cost = fuel.cost - cost; pairs = fuel.pairs - pairs; bytes = fuel.bytes - bytes }
+
+abbrev pub run : String → String → Fuel → Outcome
+run program env fuel = run_outcome (tree program) (tree env) fuel
+
+-- with ample fuel: the value, and what is used of cost, pairs and bytes
+abbrev pub gives : String → String → String → ℕ → ℕ → ℕ → Type 0
+gives program env value cost pairs bytes = run program env ample ≡ Done (tree value) (less cost pairs bytes ample)
+
+abbrev pub fails : String → String → Why → String → Type 0
+fails program env why form = run program env ample ≡ Failed why (tree form)
+
+abbrev pub wide : String → String → Type 0
+wide program env = run program env ample ≡ Wide
+
+abbrev pub spent : String → String → Fuel → Which → Type 0
+spent program env fuel which = run program env fuel ≡ Spent which

@@ -1,0 +1,217 @@
+-- What a run makes of its fuel, along the definition of evaluation: the laws on fuel but the bound on steps.
+use Rattle.std.proofs.Common.{◌≡◌, ℕ, zero, suc, ◌+◌, ◌-◌, ◌≤◌, Bool, true, false, cond, ltb, List, [], ◌∷◌, Option, Some, None, refl, sym, ap, ◌∙◌, subst, arith}
+use Rattle.std.proofs.lemmas.Bool.{ltb-true, ltb-false, lt-ltb, le-ltb, cond-true, cond-false, cond_both}
+use Rattle.clvm_spec.specs.declared.fuel.Fuel.{Fuel}
+use Rattle.clvm_spec.specs.declared.fuel.Which.{Which}
+use Rattle.clvm_spec.specs.declared.fuel.Which.TheVariants.{Cost, Pairs, Bytes, Depth}
+use Rattle.clvm_spec.specs.Tree.{Tree, Atom, Pair, nil}
+use Rattle.clvm_spec.specs.ProperList.{elements}
+use Rattle.clvm_spec.specs.Path.{PathValue, Reached, Astray, path_value, path_cost}
+use Rattle.clvm_spec.specs.Outcomes.{Why, NoOperator, WrongCount, NotAList, NoStep, Applied, Gives, Fails, TooWide, Lacks, Outcome, Done, Failed, Spent, Wide}
+use Rattle.clvm_spec.specs.OperatorTable.{applied, within}
+use Rattle.clvm_spec.specs.Evaluation.{if_done, charge, is_byte, at_path, Evaluator, goes_on, in_form, apply_values, values_of, deeper, operator_form, evaluated_by, evaluated_within}
+use Rattle.clvm_spec.specs.FuelLaws.{Spending, Suffices, fuel_less, IsAtLeast}
+
+-- an outcome with this fuel, and what it is with other fuel
+pub data Kept (run : Fuel → Outcome) (fuel : Fuel) : Outcome → Type 0 where
+  done : (value : Tree) (spending : Spending) → Suffices fuel spending → ((other : Fuel) → Suffices other spending → fuel.depth ≤ other.depth → run other ≡ Done value (fuel_less spending other)) → Kept run fuel (Done value (fuel_less spending fuel))
+  failed : (why : Why) (form : Tree) → ((more : Fuel) → IsAtLeast more fuel → run more ≡ Failed why form) → Kept run fuel (Failed why form)
+  spent : (which : Which) → Kept run fuel (Spent which)
+  wide : ((more : Fuel) → IsAtLeast more fuel → run more ≡ Wide) → Kept run fuel Wide
+
+abbrev pub IsSteady : (Fuel → Outcome) → Type 0
+IsSteady run = (fuel : Fuel) → Kept run fuel (run fuel)
+
+-- ---- uses
+
+abbrev no_spending : Spending
+no_spending = record { cost = 0; pairs = 0; bytes = 0 }
+
+abbrev both : Spending → Spending → Spending
+both a b = record { cost = a.cost + b.cost; pairs = a.pairs + b.pairs; bytes = a.bytes + b.bytes }
+
+same_fuel : (a b : Fuel) → a.cost ≡ b.cost → a.pairs ≡ b.pairs → a.bytes ≡ b.bytes → a.depth ≡ b.depth → a ≡ b
+same_fuel a b c p y d i = record { cost = c i; pairs = p i; bytes = y i; depth = d i }
+
+fuel_less-both : (a b : Spending) (fuel : Fuel) → fuel_less b (fuel_less a fuel) ≡ fuel_less (both a b) fuel
+fuel_less-both a b fuel = same_fuel _ _ (omega arith) (omega arith) (omega arith) refl
+
+fuel_less-no_spending : (fuel : Fuel) → fuel_less no_spending fuel ≡ fuel
+fuel_less-no_spending fuel = same_fuel _ _ (omega arith) (omega arith) (omega arith) refl
+
+suffices_both : (a b : Spending) (fuel : Fuel) → Suffices fuel a → Suffices (fuel_less a fuel) b → Suffices fuel (both a b)
+suffices_both a b fuel h k = let hc = h.cost in let kc = k.cost in let hp = h.pairs in let kp = k.pairs in let hb = h.bytes in let kb = k.bytes in
+    record { cost = omega arith; pairs = omega arith; bytes = omega arith }
+
+suffices_first : (a b : Spending) (fuel : Fuel) → Suffices fuel (both a b) → Suffices fuel a
+suffices_first a b fuel h = let c = h.cost in let p = h.pairs in let y = h.bytes in record { cost = omega arith; pairs = omega arith; bytes = omega arith }
+
+suffices_second : (a b : Spending) (fuel : Fuel) → Suffices fuel (both a b) → Suffices (fuel_less a fuel) b
+suffices_second a b fuel h = let c = h.cost in let p = h.pairs in let y = h.bytes in record { cost = omega arith; pairs = omega arith; bytes = omega arith }
+
+suffices_more : (spending : Spending) (fuel more : Fuel) → Suffices fuel spending → IsAtLeast more fuel → Suffices more spending
+suffices_more spending fuel more h m = record { cost = omega arith; pairs = omega arith; bytes = omega arith }
+
+at_least_less : (spending : Spending) (fuel more : Fuel) → IsAtLeast more fuel → IsAtLeast (fuel_less spending more) (fuel_less spending fuel)
+at_least_less spending fuel more m = record { cost = omega arith; pairs = omega arith; bytes = omega arith; depth = m.depth }
+
+-- ---- one after another
+
+module _ (run : Fuel → Outcome) (go : Tree → Fuel → Outcome) where
+  abbrev then_run : Fuel → Outcome
+  then_run fuel = if_done (run fuel) go
+
+  second : (fuel : Fuel) (value : Tree) (spending : Spending) → Suffices fuel spending → ((other : Fuel) → Suffices other spending → fuel.depth ≤ other.depth → run other ≡ Done value (fuel_less spending other)) → (o : Outcome) → Kept (go value) (fuel_less spending fuel) o → Kept then_run fuel o
+  second fuel value spending h all o (done w later h2 all2) =
+      subst (λ (l : Fuel). Kept then_run fuel (Done w l)) (sym (fuel_less-both spending later fuel))
+      (done w (both spending later) (suffices_both spending later fuel h h2)
+      (λ other s d. ap (λ o. if_done o go) (all other (suffices_first spending later other s) d) ∙ all2 (fuel_less spending other) (suffices_second spending later other s) d ∙ ap (λ l. Done w l) (fuel_less-both spending later other)))
+  second fuel value spending h all o (failed why form k) =
+      failed why form (λ more m. ap (λ o. if_done o go) (all more (suffices_more spending fuel more h m) m.depth) ∙ k (fuel_less spending more) (at_least_less spending fuel more m))
+  second fuel value spending h all o (spent which) = spent which
+  second fuel value spending h all o (wide k) =
+      wide (λ more m. ap (λ o. if_done o go) (all more (suffices_more spending fuel more h m) m.depth) ∙ k (fuel_less spending more) (at_least_less spending fuel more m))
+
+  first_then : ((value : Tree) → IsSteady (go value)) → (fuel : Fuel) (o : Outcome) → Kept run fuel o → Kept then_run fuel (if_done o go)
+  first_then steady fuel o (done value spending h all) = second fuel value spending h all (go value (fuel_less spending fuel)) (steady value (fuel_less spending fuel))
+  first_then steady fuel o (failed why form k) = failed why form (λ more m. ap (λ o. if_done o go) (k more m))
+  first_then steady fuel o (spent which) = spent which
+  first_then steady fuel o (wide k) = wide (λ more m. ap (λ o. if_done o go) (k more m))
+
+  pub steady_then : IsSteady run → ((value : Tree) → IsSteady (go value)) → IsSteady then_run
+  steady_then p q fuel = first_then q fuel (run fuel) (p fuel)
+
+-- ---- the steps that look at fuel
+
+pays : ℕ → Fuel → Outcome
+pays cost fuel = cond (ltb fuel.cost cost) (Spent Cost) (Done nil (record fuel { cost = fuel.cost - cost }))
+
+may_go_deeper : ℕ → Fuel → Outcome
+may_go_deeper depth fuel = cond (ltb depth fuel.depth) (Done nil fuel) (Spent Depth)
+
+paid_is : (cost : ℕ) (fuel : Fuel) → record fuel { cost = fuel.cost - cost } ≡ fuel_less (record { cost = cost; pairs = 0; bytes = 0 }) fuel
+paid_is cost fuel = same_fuel _ _ refl (omega arith) (omega arith) refl
+
+steady_pays : (cost : ℕ) → IsSteady (pays cost)
+unfolding pays
+steady_pays cost fuel =
+    cond_both (ltb fuel.cost cost) (Spent Cost) (Done nil (record fuel { cost = fuel.cost - cost })) (λ o. Kept (pays cost) fuel o)
+    (λ e. spent Cost)
+    (λ e. subst (λ (l : Fuel). Kept (pays cost) fuel (Done nil l)) (sym (paid_is cost fuel))
+    (done nil (record { cost = cost; pairs = 0; bytes = 0 })
+    (let h = ltb-false fuel.cost cost e in record { cost = h; pairs = omega arith; bytes = omega arith })
+    (λ other s d. cond-false (ltb other.cost cost) _ _ (le-ltb other.cost cost s.cost) ∙ ap (λ l. Done nil l) (paid_is cost other))))
+
+steady_may_go_deeper : (depth : ℕ) → IsSteady (may_go_deeper depth)
+unfolding may_go_deeper
+steady_may_go_deeper depth fuel =
+    cond_both (ltb depth fuel.depth) (Done nil fuel) (Spent Depth) (λ o. Kept (may_go_deeper depth) fuel o)
+    (λ e. subst (λ (l : Fuel). Kept (may_go_deeper depth) fuel (Done nil l)) (fuel_less-no_spending fuel)
+    (done nil no_spending (record { cost = omega arith; pairs = omega arith; bytes = omega arith })
+    (λ other s d. let h = ltb-true depth fuel.depth e in cond-true (ltb depth other.depth) _ _ (lt-ltb depth other.depth (omega arith)) ∙ ap (λ l. Done nil l) (sym (fuel_less-no_spending other)))))
+    (λ e. spent Depth)
+
+same_steady : (run other : Fuel → Outcome) → ((fuel : Fuel) → run fuel ≡ other fuel) → IsSteady run → IsSteady other
+same_steady run other same p = let e : run ≡ other = λ i fuel. same fuel i in subst IsSteady e p
+
+if_done-cond : (b : Bool) (x y : Outcome) (go : Tree → Fuel → Outcome) → if_done (cond b x y) go ≡ cond b (if_done x go) (if_done y go)
+if_done-cond true x y go = refl
+if_done-cond false x y go = refl
+
+steady_charge : (cost : ℕ) (go : Fuel → Outcome) → IsSteady go → IsSteady (λ fuel. charge cost fuel go)
+unfolding pays
+steady_charge cost go p =
+    same_steady _ _ (λ fuel. if_done-cond (ltb fuel.cost cost) _ _ (λ v. go))
+    (steady_then (pays cost) (λ v. go) (steady_pays cost) (λ v. p))
+
+steady_deeper : (operands : List Tree) (depth : ℕ) (go : Fuel → Outcome) → IsSteady go → IsSteady (λ fuel. deeper operands depth fuel go)
+unfolding may_go_deeper
+steady_deeper [] depth go p = p
+steady_deeper (operand ∷ operands) depth go p =
+    same_steady _ _ (λ fuel. if_done-cond (ltb depth fuel.depth) _ _ (λ v. go))
+    (steady_then (may_go_deeper depth) (λ v. go) (steady_may_go_deeper depth) (λ v. p))
+
+-- ---- what takes no account of fuel
+
+steady_done : (value : Tree) → IsSteady (Done value)
+steady_done value fuel =
+    subst (λ (l : Fuel). Kept (Done value) fuel (Done value l)) (fuel_less-no_spending fuel)
+    (done value no_spending (record { cost = omega arith; pairs = omega arith; bytes = omega arith }) (λ other s d. ap (λ l. Done value l) (sym (fuel_less-no_spending other))))
+
+steady_failed : (why : Why) (form : Tree) → IsSteady (λ fuel. Failed why form)
+steady_failed why form fuel = failed why form (λ more m. refl)
+
+-- ---- an operator
+
+in_form-value : (form : Tree) (value : Tree) (cost pairs bytes : ℕ) → Fuel → Outcome
+in_form-value form value cost pairs bytes fuel = in_form form fuel (within fuel (Gives value cost pairs bytes))
+
+enough : (form value : Tree) (cost pairs bytes : ℕ) (fuel : Fuel) → Suffices fuel (record { cost = cost; pairs = pairs; bytes = bytes }) → in_form-value form value cost pairs bytes fuel ≡ Done value (fuel_less (record { cost = cost; pairs = pairs; bytes = bytes }) fuel)
+unfolding in_form-value
+enough form value cost pairs bytes fuel s =
+    ap (λ a. in_form form fuel a) (cond-false (ltb fuel.cost cost) _ _ (le-ltb fuel.cost cost s.cost)
+    ∙ cond-false (ltb fuel.pairs pairs) _ _ (le-ltb fuel.pairs pairs s.pairs)
+    ∙ cond-false (ltb fuel.bytes bytes) _ _ (le-ltb fuel.bytes bytes s.bytes))
+
+steady_value : (form value : Tree) (cost pairs bytes : ℕ) → IsSteady (in_form-value form value cost pairs bytes)
+unfolding in_form-value
+steady_value form value cost pairs bytes fuel =
+    let P = λ (a : Applied). Kept (in_form-value form value cost pairs bytes) fuel (in_form form fuel a) in
+    cond_both (ltb fuel.cost cost) _ _ P (λ c. spent Cost)
+    (λ c. cond_both (ltb fuel.pairs pairs) _ _ P (λ p. spent Pairs)
+    (λ p. cond_both (ltb fuel.bytes bytes) _ _ P (λ b. spent Bytes)
+    (λ b. done value (record { cost = cost; pairs = pairs; bytes = bytes })
+    (record { cost = ltb-false fuel.cost cost c; pairs = ltb-false fuel.pairs pairs p; bytes = ltb-false fuel.bytes bytes b })
+    (λ other s d. enough form value cost pairs bytes other s))))
+
+steady_operator : (form : Tree) (a : Applied) → IsSteady (λ fuel. in_form form fuel (within fuel a))
+unfolding in_form-value
+steady_operator form (Gives value cost pairs bytes) = steady_value form value cost pairs bytes
+steady_operator form (Fails why) = steady_failed why form
+steady_operator form TooWide = λ fuel. wide (λ more m. refl)
+steady_operator form (Lacks which) = λ fuel. spent which
+
+-- ---- evaluation
+
+either : (b : Bool) (x y : Fuel → Outcome) → IsSteady x → IsSteady y → IsSteady (λ fuel. cond b (x fuel) (y fuel))
+either true x y p q = p
+either false x y p q = q
+
+steady_values : (value : Tree → Fuel → Outcome) → ((operand : Tree) → IsSteady (value operand)) → (operands : List Tree) (go : List Tree → Fuel → Outcome) → ((values : List Tree) → IsSteady (go values)) → IsSteady (λ fuel. values_of value operands fuel go)
+steady_values value p [] go q = q []
+steady_values value p (operand ∷ operands) go q =
+    steady_values value p operands (λ values fuel. if_done (value operand fuel) (λ v last. go (v ∷ values) last))
+    (λ values. steady_then (value operand) (λ v. go (v ∷ values)) (p operand) (λ v. q (v ∷ values)))
+
+steady_path : (path : List ℕ) (found : PathValue) → IsSteady (at_path path found)
+steady_path path (Reached value steps) = steady_charge (path_cost path steps) (Done value) (steady_done value)
+steady_path path Astray = steady_failed NoStep (Atom path)
+
+module _ (evaluate : Evaluator) (steady : (program env : Tree) (depth : ℕ) → IsSteady (evaluate program env depth)) where
+  steady_goes_on : (form : Tree) (depth : ℕ) (values : List Tree) → IsSteady (goes_on evaluate form depth values)
+  steady_goes_on form depth [] = steady_failed WrongCount form
+  steady_goes_on form depth (program ∷ []) = steady_failed WrongCount form
+  steady_goes_on form depth (program ∷ env ∷ []) = steady_charge 90 (evaluate program env depth) (steady program env depth)
+  steady_goes_on form depth (program ∷ env ∷ c ∷ more) = steady_failed WrongCount form
+
+  steady_apply : (code : List ℕ) (form : Tree) (depth : ℕ) (values : List Tree) → IsSteady (apply_values evaluate code form depth values)
+  steady_apply code form depth values =
+      either (is_byte 2 code) (goes_on evaluate form depth values) (λ fuel. in_form form fuel (within fuel (applied code values)))
+      (steady_goes_on form depth values) (steady_operator form (applied code values))
+
+  steady_form : (code : List ℕ) (form env : Tree) (depth : ℕ) (operands : Option (List Tree)) → IsSteady (operator_form evaluate code form env depth operands)
+  steady_form code form env depth None = steady_failed NotAList form
+  steady_form code form env depth (Some operands) =
+      steady_charge 1 _ (steady_deeper operands depth _ (steady_values (λ operand. evaluate operand env (suc depth)) (λ operand. steady operand env (suc depth)) operands
+      (apply_values evaluate code form depth) (steady_apply code form depth)))
+
+  pub steady_by : (program env : Tree) (depth : ℕ) → IsSteady (evaluated_by evaluate program env depth)
+  steady_by (Atom path) env depth = steady_path path (path_value path env)
+  steady_by (Pair (Pair a b) rest) env depth = steady_failed NoOperator (Pair (Pair a b) rest)
+  steady_by (Pair (Atom code) rest) env depth =
+      either (is_byte 1 code) (λ fuel. charge 20 fuel (Done rest)) (operator_form evaluate code (Pair (Atom code) rest) env depth (elements rest))
+      (steady_charge 20 (Done rest) (steady_done rest)) (steady_form code (Pair (Atom code) rest) env depth (elements rest))
+
+pub steady_within : (steps : ℕ) (program env : Tree) (depth : ℕ) → IsSteady (evaluated_within steps program env depth)
+steady_within zero program env depth = λ fuel. spent Cost
+steady_within (suc steps) program env depth = steady_by (evaluated_within steps) (steady_within steps) program env depth

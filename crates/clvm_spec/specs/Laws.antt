@@ -1,0 +1,49 @@
+-- The laws of spelling, reading and numbers, each over all trees and bytes. They hold of the definitions, and so of
+-- each program whose contract is one of these.
+use Rattle.std.specs.Prelude.{◌≡◌, ℕ, ◌<◌, ◌≤◌, ◌↔◌, false, ℤ, FitsSigned, List, [], ◌++◌, length, Some}
+use Rattle.std.specs.Int.{w128}
+use Rattle.std.specs.List.{AllByRecursion}
+use Rattle.clvm_spec.specs.Tree.{Tree}
+use Rattle.clvm_spec.specs.Spelling.{spelling, HasSpelling, Spells}
+use Rattle.clvm_spec.specs.Reading.{Flaw, Found, Faulty, tree_at_front, tree_of}
+use Rattle.clvm_spec.specs.Faults.{HasFault}
+use Rattle.clvm_spec.specs.Numbers.{number, shortest_atom, has_sign_byte}
+
+abbrev pub AreBytes : List ℕ → Type 0
+AreBytes bytes = AllByRecursion (λ b. b < 256) bytes
+
+-- A tree has at most one spelling.
+abbrev pub HasOneSpelling : Type 0
+HasOneSpelling = (tree : Tree) (a b : List ℕ) → Spells tree a → Spells tree b → a ≡ b
+
+-- Where one spelling begins another, both are of one tree, and nothing follows.
+abbrev pub BeginsNoOther : Type 0
+BeginsNoOther = (tree other : Tree) (rest : List ℕ) → HasSpelling tree → HasSpelling other → spelling other ≡ spelling tree ++ rest → (tree ≡ other) × (rest ≡ [])
+
+-- A spelled tree is found, whatever follows it.
+abbrev pub FindsSpelled : Type 0
+FindsSpelled = (tree : Tree) (rest : List ℕ) → HasSpelling tree → tree_at_front (spelling tree ++ rest) ≡ Found tree rest
+
+-- A tree that is found is spelled there.
+abbrev pub FoundIsSpelled : Type 0
+FoundIsSpelled = (bytes : List ℕ) (tree : Tree) (rest : List ℕ) → AreBytes bytes → tree_at_front bytes ≡ Found tree rest → HasSpelling tree × (bytes ≡ spelling tree ++ rest)
+
+-- A flaw is found exactly behind a list of tokens that leaves trees open, where it is why no token stands.
+abbrev pub FaultIsFound : Type 0
+FaultIsFound = (bytes : List ℕ) (flaw : Flaw) (rest : List ℕ) → AreBytes bytes → (tree_at_front bytes ≡ Faulty flaw rest) ↔ HasFault bytes flaw rest
+
+-- Bytes are read as a whole tree exactly where they spell it.
+abbrev pub WholeIsSpelled : Type 0
+WholeIsSpelled = (bytes : List ℕ) (tree : Tree) → AreBytes bytes → (tree_of bytes ≡ Some tree) ↔ Spells tree bytes
+
+-- The shortest atom of a number has that number.
+abbrev pub ShortestHasNumber : Type 0
+ShortestHasNumber = (n : ℤ) → FitsSigned w128 n → number (shortest_atom n) ≡ n
+
+-- An atom without a byte that says no more than the sign is the shortest of its number.
+abbrev pub ShortestIsItself : Type 0
+ShortestIsItself = (atom : List ℕ) → AreBytes atom → length atom ≤ 16 → has_sign_byte atom ≡ false → shortest_atom (number atom) ≡ atom
+
+-- No atom of a number is shorter than the shortest.
+abbrev pub ShortestIsLeast : Type 0
+ShortestIsLeast = (atom : List ℕ) → AreBytes atom → length (shortest_atom (number atom)) ≤ length atom

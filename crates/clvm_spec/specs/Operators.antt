@@ -1,0 +1,275 @@
+-- Each operator but `q` and `a`: what it gives of its operands, at which cost, with which new pairs and bytes, and its
+-- faults in their order. Operands are read from the first to the last. Source: CLVM reference; the costs and
+-- the order of faults as they stand here are this project's own.
+use Rattle.std.specs.Prelude.{ℕ, suc, ◌+◌, ◌*◌, ◌/◌, ℤ, pos, negsuc, ◌+ℤ◌, ◌-ℤ◌, ◌*ℤ◌, int_lt, Bool, true, false, not, ◌&&◌, List, [], ◌∷◌, length, map, fold, sum_by, slice_range, bytes_eq, nat_lt, nat_le, if◌then◌else◌}
+use Rattle.std.specs.List.{concat, list_any, list_all}
+use Rattle.std.specs.Ordering.{nat_cmp, is_gt}
+use Rattle.std.specs.Cmp.Lexicographic.{slice_cmp}
+use Rattle.std.specs.Int.{w128, int_bit_and, int_bit_or, int_bit_xor}
+use Rattle.sha2.specs.Sha256.{sha256}
+use Rattle.clvm_spec.specs.Tree.{Tree, Atom, Pair, nil}
+use Rattle.clvm_spec.specs.ProperList.{list_of}
+use Rattle.clvm_spec.specs.Numbers.{unsigned, number, shortest_atom}
+use Rattle.clvm_spec.specs.Arithmetic.{fits_128, is_zero, quotient, remainder, is_shift, shifted}
+use Rattle.clvm_spec.specs.Outcomes.{WrongCount, WrongOperand, Raised, ZeroDivisor, WrongShift, Applied, Gives, Fails, TooWide}
+
+-- ---- how operands are read: first how many there are, then each of them
+
+abbrev pub one : List Tree → (Tree → Applied) → Applied
+one [] go = Fails WrongCount
+one (a ∷ []) go = go a
+one (a ∷ b ∷ more) go = Fails WrongCount
+
+abbrev pub two : List Tree → (Tree → Tree → Applied) → Applied
+two [] go = Fails WrongCount
+two (a ∷ []) go = Fails WrongCount
+two (a ∷ b ∷ []) go = go a b
+two (a ∷ b ∷ c ∷ more) go = Fails WrongCount
+
+abbrev pub three : List Tree → (Tree → Tree → Tree → Applied) → Applied
+three [] go = Fails WrongCount
+three (a ∷ []) go = Fails WrongCount
+three (a ∷ b ∷ []) go = Fails WrongCount
+three (a ∷ b ∷ c ∷ []) go = go a b c
+three (a ∷ b ∷ c ∷ d ∷ more) go = Fails WrongCount
+
+-- the operand of this place where a pair is needed
+abbrev pub pair_at : ℕ → Tree → (Tree → Tree → Applied) → Applied
+pair_at place (Atom bytes) go = Fails (WrongOperand place)
+pair_at place (Pair first rest) go = go first rest
+
+-- where an atom is needed
+abbrev pub atom_at : ℕ → Tree → (List ℕ → Applied) → Applied
+atom_at place (Atom bytes) go = go bytes
+atom_at place (Pair first rest) go = Fails (WrongOperand place)
+
+-- where a number is needed: an atom of at most 16 bytes
+abbrev pub if_short : List ℕ → (List ℕ → Applied) → Applied
+if_short bytes go = if nat_lt 16 (length bytes) then TooWide else go bytes
+
+abbrev pub number_at : ℕ → Tree → (List ℕ → Applied) → Applied
+number_at place operand go = atom_at place operand (λ bytes. if_short bytes go)
+
+abbrev pub two_atoms : List Tree → (List ℕ → List ℕ → Applied) → Applied
+two_atoms operands go = two operands (λ a b. atom_at 0 a (λ a. atom_at 1 b (λ b. go a b)))
+
+abbrev pub two_numbers : List Tree → (List ℕ → List ℕ → Applied) → Applied
+two_numbers operands go = two operands (λ a b. number_at 0 a (λ a. number_at 1 b (λ b. go a b)))
+
+-- any count of atoms, or of numbers, from this place on
+abbrev pub atoms_from : ℕ → List Tree → (List (List ℕ) → Applied) → Applied
+atoms_from place [] go = go []
+atoms_from place (operand ∷ operands) go = atom_at place operand (λ bytes. atoms_from (suc place) operands (λ more. go (bytes ∷ more)))
+
+abbrev pub numbers_from : ℕ → List Tree → (List (List ℕ) → Applied) → Applied
+numbers_from place [] go = go []
+numbers_from place (operand ∷ operands) go = number_at place operand (λ bytes. numbers_from (suc place) operands (λ more. go (bytes ∷ more)))
+
+abbrev pub atoms : List Tree → (List (List ℕ) → Applied) → Applied
+atoms operands go = atoms_from 0 operands go
+
+abbrev pub numbers : List Tree → (List (List ℕ) → Applied) → Applied
+numbers operands go = numbers_from 0 operands go
+
+-- ---- how values are made
+
+-- what is there already, or one of the two atoms for true and false
+abbrev pub free : Tree → ℕ → Applied
+free value cost = Gives value cost 0 0
+
+abbrev pub flag : Bool → Tree
+flag b = if b then Atom (1 ∷ []) else nil
+
+abbrev pub is_nil : Tree → Bool
+is_nil (Atom []) = true
+is_nil (Atom (b ∷ bytes)) = false
+is_nil (Pair first rest) = false
+
+-- A new atom uses its length and 8 bytes more.
+abbrev pub new_atom : ℕ → List ℕ → Applied
+new_atom cost bytes = Gives (Atom bytes) cost 0 (length bytes + 8)
+
+-- the same, at a cost of 10 more for each byte
+abbrev pub written : ℕ → List ℕ → Applied
+written cost bytes = new_atom (cost + 10 * length bytes) bytes
+
+abbrev pub new_number : ℕ → ℤ → Applied
+new_number cost n = if fits_128 n then written cost (shortest_atom n) else TooWide
+
+abbrev pub lengths : List (List ℕ) → ℕ
+lengths atoms = sum_by length atoms
+
+-- ---- trees
+
+-- i: the third operand where the first is nil, else the second
+abbrev pub choice : List Tree → Applied
+choice operands = three operands (λ test yes no. free (if is_nil test then no else yes) 33)
+
+-- c
+abbrev pub new_pair : List Tree → Applied
+new_pair operands = two operands (λ first rest. Gives (Pair first rest) 50 1 0)
+
+-- f
+abbrev pub first_of : List Tree → Applied
+first_of operands = one operands (λ operand. pair_at 0 operand (λ first rest. free first 30))
+
+-- r
+abbrev pub rest_of : List Tree → Applied
+rest_of operands = one operands (λ operand. pair_at 0 operand (λ first rest. free rest 30))
+
+-- l: 1 for a pair, else nil
+abbrev pub is_pair : Tree → Bool
+is_pair (Atom bytes) = false
+is_pair (Pair first rest) = true
+
+abbrev pub pair_flag : List Tree → Applied
+pair_flag operands = one operands (λ operand. free (flag (is_pair operand)) 19)
+
+-- x: raises the list of its operands
+abbrev pub raised : List Tree → Applied
+raised operands = Fails (Raised (list_of operands))
+
+-- ---- atoms
+
+-- =: 1 where the bytes are equal, else nil
+abbrev pub equal_flag : List Tree → Applied
+equal_flag operands = two_atoms operands (λ a b. free (flag (bytes_eq a b)) (117 + (length a + length b)))
+
+-- >s: 1 where the first is larger by bytes, a proper prefix being smaller
+abbrev pub bytes_greater_flag : List Tree → Applied
+bytes_greater_flag operands = two_atoms operands (λ a b. free (flag (is_gt (slice_cmp nat_cmp a b))) (117 + (length a + length b)))
+
+-- sha256: the hash of their concatenation
+abbrev pub hash_of : List Tree → Applied
+hash_of operands = atoms operands (λ atoms. new_atom (87 + 134 * length atoms + 2 * lengths atoms + 320) (sha256 (concat atoms)))
+
+-- substr: the bytes from the start to the end, where 0 <= start <= end <= length; the end is the length by default
+abbrev pub part_within : List ℕ → ℕ → ℕ → Applied
+part_within bytes start end = if nat_le start end && nat_le end (length bytes) then new_atom 1 (slice_range bytes start end) else Fails (WrongOperand 1)
+
+abbrev pub part : List ℕ → ℤ → ℤ → Applied
+part bytes (pos start) (pos end) = part_within bytes start end
+part bytes (pos start) (negsuc end) = Fails (WrongOperand 1)
+part bytes (negsuc start) end = Fails (WrongOperand 1)
+
+abbrev pub part_of : List Tree → Applied
+part_of [] = Fails WrongCount
+part_of (a ∷ []) = Fails WrongCount
+part_of (a ∷ start ∷ []) = atom_at 0 a (λ a. number_at 1 start (λ start. part a (number start) (pos (length a))))
+part_of (a ∷ start ∷ end ∷ []) = atom_at 0 a (λ a. number_at 1 start (λ start. number_at 2 end (λ end. part a (number start) (number end))))
+part_of (a ∷ b ∷ c ∷ d ∷ more) = Fails WrongCount
+
+-- strlen
+abbrev pub length_of : List Tree → Applied
+length_of operands = one operands (λ a. atom_at 0 a (λ a. new_number (173 + length a) (pos (length a))))
+
+-- concat
+abbrev pub concat_of : List Tree → Applied
+concat_of operands = atoms operands (λ atoms. written (142 + 135 * length atoms + 3 * lengths atoms) (concat atoms))
+
+-- ---- numbers
+
+-- goes on from the left, where each partial result has to fit
+abbrev pub from_left : (ℤ → ℤ → ℤ) → ℤ → List ℤ → (ℤ → Applied) → Applied
+from_left step so_far [] go = go so_far
+from_left step so_far (n ∷ ns) go = if fits_128 (step so_far n) then from_left step (step so_far n) ns go else TooWide
+
+abbrev pub sum_cost : List (List ℕ) → ℕ
+sum_cost atoms = 99 + 320 * length atoms + 3 * lengths atoms
+
+-- +: the sum, 0 for none
+abbrev pub sum_of : List Tree → Applied
+sum_of operands = numbers operands (λ atoms. from_left ◌+ℤ◌ (pos 0) (map number atoms) (new_number (sum_cost atoms)))
+
+-- -: the first less the others, 0 for none
+abbrev pub less_others : List ℤ → (ℤ → Applied) → Applied
+less_others [] go = go (pos 0)
+less_others (n ∷ ns) go = from_left ◌-ℤ◌ n ns go
+
+abbrev pub difference_of : List Tree → Applied
+difference_of operands = numbers operands (λ atoms. less_others (map number atoms) (new_number (sum_cost atoms)))
+
+-- *: the product, 1 for none. Each operand after the first costs by its length and that of the running product,
+-- which is the first operand's own, and then that of its shortest form.
+abbrev pub factor_cost : ℕ → ℕ → ℕ
+factor_cost size other = 885 + 6 * (size + other) + size * other / 128
+
+abbrev pub times_others : (cost size : ℕ) → ℤ → List (List ℕ) → Applied
+times_others cost size so_far [] = new_number cost so_far
+times_others cost size so_far (a ∷ atoms) = let product = so_far *ℤ number a in
+    if fits_128 product then times_others (cost + factor_cost size (length a)) (length (shortest_atom product)) product atoms else TooWide
+
+abbrev pub product_from : List (List ℕ) → Applied
+product_from [] = new_number 92 (pos 1)
+product_from (a ∷ atoms) = times_others 92 (length a) (number a) atoms
+
+abbrev pub product_of : List Tree → Applied
+product_of operands = numbers operands product_from
+
+abbrev pub unless_zero : ℤ → Applied → Applied
+unless_zero divisor applied = if is_zero divisor then Fails ZeroDivisor else applied
+
+-- /: the quotient rounded down
+abbrev pub quotient_of : List Tree → Applied
+quotient_of operands = two_numbers operands (λ a b. unless_zero (number b) (new_number (988 + 4 * (length a + length b)) (quotient (number a) (number b))))
+
+-- divmod: the pair of the quotient rounded down and the remainder
+abbrev pub pair_of_atoms : ℕ → List ℕ → List ℕ → Applied
+pair_of_atoms cost a b = Gives (Pair (Atom a) (Atom b)) (cost + 10 * (length a + length b)) 1 ((length a + 8) + (length b + 8))
+
+abbrev pub pair_of_numbers : ℕ → ℤ → ℤ → Applied
+pair_of_numbers cost a b = if fits_128 a && fits_128 b then pair_of_atoms cost (shortest_atom a) (shortest_atom b) else TooWide
+
+abbrev pub quotient_and_remainder : List Tree → Applied
+quotient_and_remainder operands = two_numbers operands (λ a b. unless_zero (number b) (pair_of_numbers (1116 + 6 * (length a + length b)) (quotient (number a) (number b)) (remainder (number a) (number b))))
+
+-- >: 1 where the first is larger, else nil
+abbrev pub greater_flag : List Tree → Applied
+greater_flag operands = two_numbers operands (λ a b. free (flag (int_lt (number b) (number a))) (498 + 2 * (length a + length b)))
+
+-- ash: the value times 2 ^ shift, rounded down. lsh: the same of the value read without sign
+abbrev pub shifted_number : ℕ → ℕ → ℤ → Applied
+shifted_number cost size n = new_number (cost + 3 * (size + length (shortest_atom n))) n
+
+abbrev pub shift : ℕ → ℕ → ℤ → ℤ → Applied
+shift cost size n by = if is_shift by then shifted_number cost size (shifted n by) else Fails WrongShift
+
+abbrev pub shift_of_number : List Tree → Applied
+shift_of_number operands = two_numbers operands (λ a by. shift 596 (length a) (number a) (number by))
+
+abbrev pub shift_of_bits : List Tree → Applied
+shift_of_bits operands = two_numbers operands (λ a by. shift 277 (length a) (pos (unsigned a)) (number by))
+
+-- logand, logior, logxor: bit by bit, -1, 0 and 0 for none
+abbrev pub bits_of : (ℤ → ℤ → ℤ) → ℤ → List Tree → Applied
+bits_of step none operands = numbers operands (λ atoms. new_number (100 + 264 * length atoms + 3 * lengths atoms) (fold step none (map number atoms)))
+
+abbrev pub and_of : List Tree → Applied
+and_of operands = bits_of (int_bit_and w128) (negsuc 0) operands
+
+abbrev pub or_of : List Tree → Applied
+or_of operands = bits_of (int_bit_or w128) (pos 0) operands
+
+abbrev pub xor_of : List Tree → Applied
+xor_of operands = bits_of (int_bit_xor w128) (pos 0) operands
+
+-- lognot: -1 less the number
+abbrev pub complement_of : List Tree → Applied
+complement_of operands = one operands (λ a. number_at 0 a (λ a. new_number (331 + 3 * length a) (negsuc 0 -ℤ number a)))
+
+-- ---- truth
+
+-- not: 1 for nil, else nil
+abbrev pub nil_flag : List Tree → Applied
+nil_flag operands = one operands (λ operand. free (flag (is_nil operand)) 200)
+
+abbrev pub is_true : Tree → Bool
+is_true tree = not (is_nil tree)
+
+-- any: 1 where one isn't nil, else nil
+abbrev pub any_flag : List Tree → Applied
+any_flag operands = free (flag (list_any is_true operands)) (200 + 300 * length operands)
+
+-- all: 1 where none is nil, else nil
+abbrev pub all_flag : List Tree → Applied
+all_flag operands = free (flag (list_all is_true operands)) (200 + 300 * length operands)

@@ -1,0 +1,153 @@
+-- The tokens of a text, of CLVM's and of Chialisp's. Source: Chialisp reference; that an odd number of digits behind
+-- `0x` or none is refused, the width of numbers, and the faults, are this project's own.
+use Rattle.std.specs.Prelude.{ℕ, suc, ◌+◌, ◌-◌, ◌*◌, ◌==◌, ℤ, pos, neg_ℤ, Bool, true, false, not, ◌&&◌, ◌||◌, List, [], ◌∷◌, length, take, drop, bytes_eq, codes, nat_lt, nat_le, if◌then◌else◌, Option, Some, None, option_map, Result, Ok, Err}
+use Rattle.std.specs.List.{prefix_len}
+use Rattle.std.specs.Char.{is_ascii_digit, is_ascii_hexdigit}
+use Rattle.std.specs.Str.{all_ascii_digits}
+use Rattle.clvm_spec.specs.declared.scan_kind.ScanKind.{ScanKind}
+use Rattle.clvm_spec.specs.declared.scan_kind.ScanKind.TheVariants.{Hex, Number, Text, Byte}
+use Rattle.clvm_spec.specs.Numbers.{shortest_atom}
+use Rattle.clvm_spec.specs.Arithmetic.{fits_128}
+
+pub data Token : Type 0 where
+  -- ( and )
+  Opening : Token
+  Closing : Token
+  -- a lone dot
+  Point : Token
+  -- the atom of a number, of `0x` and digits, or of a quoted text
+  Literal : List ℕ → Token
+  Symbol : List ℕ → Token
+
+-- what stands at the front of a text
+pub data Front : Type 0 where
+  -- a token, the text from its first byte on, and the text behind it
+  Took : (token : Token) (from rest : List ℕ) → Front
+  -- No token can be read. The text from the place of the fault on.
+  Unread : (kind : ScanKind) (from : List ℕ) → Front
+  AtEnd : Front
+
+-- ---- bytes
+
+-- space, tab, CR and LF
+abbrev pub is_separator : ℕ → Bool
+is_separator b = b == 0x20 || b == 0x09 || b == 0x0d || b == 0x0a
+
+-- what a token may begin with
+abbrev pub is_plain : ℕ → Bool
+is_plain b = nat_le 0x21 b && nat_le b 0x7e
+
+-- a parenthesis, `;`, `"` or `'`
+abbrev pub is_mark : ℕ → Bool
+is_mark b = b == 0x28 || b == 0x29 || b == 0x3b || b == 0x22 || b == 0x27
+
+abbrev pub is_word_byte : ℕ → Bool
+is_word_byte b = is_plain b && not (is_mark b)
+
+-- The text from its first byte on that is no separator and in no comment. `;` begins a comment, up to LF.
+abbrev pub without_blanks : Bool → List ℕ → List ℕ
+without_blanks in_comment [] = []
+without_blanks true (b ∷ bytes) = without_blanks (not (b == 0x0a)) bytes
+without_blanks false (b ∷ bytes) = if is_separator b || b == 0x3b then without_blanks (b == 0x3b) bytes else b ∷ bytes
+
+-- ---- numbers
+
+abbrev pub decimal_behind : ℕ → List ℕ → ℕ
+decimal_behind high [] = high
+decimal_behind high (b ∷ digits) = decimal_behind (10 * high + (b - 48)) digits
+
+abbrev pub begins_with_minus : List ℕ → Bool
+begins_with_minus [] = false
+begins_with_minus (b ∷ bytes) = b == 0x2d
+
+abbrev pub without_minus : List ℕ → List ℕ
+without_minus [] = []
+without_minus (b ∷ bytes) = if b == 0x2d then bytes else b ∷ bytes
+
+abbrev pub is_number : List ℕ → Bool
+is_number [] = false
+is_number (b ∷ digits) = all_ascii_digits (b ∷ digits)
+
+abbrev pub number_of_word : List ℕ → ℤ
+number_of_word word = let n = pos (decimal_behind 0 (without_minus word)) in if begins_with_minus word then neg_ℤ n else n
+
+abbrev pub number_token : ℤ → Result Token ScanKind
+number_token n = if fits_128 n then Ok (Literal (shortest_atom n)) else Err Number
+
+-- ---- hexadecimal digits, in either case
+
+abbrev pub hex_value : ℕ → ℕ
+hex_value b = if nat_le 0x61 b then b - 87 else (if nat_le 0x41 b then b - 55 else b - 48)
+
+abbrev pub hex_bytes : List ℕ → Option (List ℕ)
+hex_bytes [] = Some []
+hex_bytes (high ∷ []) = None
+hex_bytes (high ∷ low ∷ digits) = if is_ascii_hexdigit high && is_ascii_hexdigit low
+    then option_map (λ bytes. (16 * hex_value high + hex_value low) ∷ bytes) (hex_bytes digits) else None
+
+abbrev pub hex_literal : Option (List ℕ) → Result Token ScanKind
+hex_literal None = Err Hex
+hex_literal (Some bytes) = Ok (Literal bytes)
+
+-- at least two digits
+abbrev pub hex_token : List ℕ → Result Token ScanKind
+hex_token [] = Err Hex
+hex_token (b ∷ digits) = hex_literal (hex_bytes (b ∷ digits))
+
+-- ---- words
+
+abbrev pub begins_with_digit : List ℕ → Bool
+begins_with_digit [] = false
+begins_with_digit (b ∷ bytes) = is_ascii_digit b
+
+abbrev pub from_symbol : List ℕ → Result Token ScanKind
+from_symbol word = if bytes_eq word (codes ".") then Ok Point else Ok (Symbol word)
+
+abbrev pub from_digit : List ℕ → Result Token ScanKind
+from_digit word = if begins_with_digit (without_minus word) then Err Number else from_symbol word
+
+abbrev pub from_hex : List ℕ → Result Token ScanKind
+from_hex word = if bytes_eq (take 2 word) (codes "0x") then hex_token (drop 2 word) else from_digit word
+
+-- what a word is: a number, bytes behind `0x`, a dot or a symbol
+unfoldable pub word_token : List ℕ → Result Token ScanKind
+word_token word = if is_number (without_minus word) then number_token (number_of_word word) else from_hex word
+
+-- ---- the token at the front
+
+abbrev pub word_front : List ℕ → ℕ → Result Token ScanKind → Front
+word_front bytes size (Ok token) = Took token bytes (drop size bytes)
+word_front bytes size (Err kind) = Unread kind bytes
+
+abbrev pub word_at : List ℕ → Front
+word_at bytes = let size = prefix_len is_word_byte bytes in word_front bytes size (word_token (take size bytes))
+
+-- a text between two quotes of one kind, without escapes
+abbrev pub quoted_of : ℕ → ℕ → List ℕ → Front
+quoted_of quote size bytes = if nat_lt size (length bytes) then Took (Literal (take size bytes)) (quote ∷ bytes) (drop (suc size) bytes) else Unread Text (quote ∷ bytes)
+
+abbrev pub quoted : ℕ → List ℕ → Front
+quoted quote bytes = quoted_of quote (prefix_len (λ b. not (b == quote)) bytes) bytes
+
+abbrev pub at_word : ℕ → List ℕ → Front
+at_word b bytes = if is_plain b then word_at (b ∷ bytes) else Unread Byte (b ∷ bytes)
+
+abbrev pub at_quote : ℕ → List ℕ → Front
+at_quote b bytes = if b == 0x22 || b == 0x27 then quoted b bytes else at_word b bytes
+
+abbrev pub at_closing : ℕ → List ℕ → Front
+at_closing b bytes = if b == 0x29 then Took Closing (b ∷ bytes) bytes else at_quote b bytes
+
+abbrev pub at_opening : ℕ → List ℕ → Front
+at_opening b bytes = if b == 0x28 then Took Opening (b ∷ bytes) bytes else at_closing b bytes
+
+abbrev pub at_front : List ℕ → Front
+at_front [] = AtEnd
+at_front (b ∷ bytes) = at_opening b bytes
+
+unfoldable pub token_of : List ℕ → Front
+token_of text = at_front (without_blanks false text)
+
+-- the place of the text from there on
+abbrev pub place_of : List ℕ → List ℕ → ℕ
+place_of text from = length text - length from

@@ -1,0 +1,52 @@
+//! Plain programs of what operators calculate with numbers, and of what a path costs.
+
+ghost use Rattle.std.specs.Prelude.{◌≡◌, pos, ◌-ℤ◌, false, if◌then◌else◌};
+ghost use Rattle.clvm_spec.specs.Arithmetic.{if_fits, is_zero, quotient, is_shift};
+ghost use Rattle.clvm_spec.specs.Path.{leading_zeros};
+
+/// The quotient rounded down, None exactly where 128 bits don't hold it. The divisor isn't 0.
+pub fn quotient_of(number: i128, divisor: i128) -> Option<i128>
+    requires { is_zero divisor ≡ false }
+    ensures { result ≡ if_fits (quotient number divisor) }
+{
+    if divisor == -1 {
+        return number.checked_neg();
+    }
+    let quotient = number.div_euclid(divisor);
+    if divisor < 0 {
+        less_one_unless_whole(quotient, number.rem_euclid(divisor))
+    } else {
+        Some(quotient)
+    }
+}
+
+fn less_one_unless_whole(quotient: i128, rest: i128) -> Option<i128>
+    ensures { result ≡ if_fits (if is_zero rest then quotient else (quotient -ℤ pos 1)) }
+{
+    if rest == 0 {
+        Some(quotient)
+    } else {
+        quotient.checked_sub(1)
+    }
+}
+
+/// Whether a number says by how much to shift: from -65,535 to 65,535.
+pub fn is_shift_amount(by: i128) -> bool
+    ensures { result ≡ is_shift by }
+{
+    -65_535 <= by && by <= 65_535
+}
+
+/// How many zero bytes a path begins with; each costs 4.
+pub fn leading_zero_bytes(path: &[u8]) -> usize
+    ensures { result ≡ leading_zeros path.now }
+{
+    let mut zeros = 0;
+    for byte in path {
+        if *byte != 0 {
+            return zeros;
+        }
+        zeros += 1;
+    }
+    zeros
+}

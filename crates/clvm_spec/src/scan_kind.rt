@@ -1,0 +1,22 @@
+//! What is wrong with a text.
+
+/// The first fault of a text, from the front.
+#[derive(Clone, Copy, Debug, PartialEq, Eq)]
+pub enum ScanKind {
+    /// The text ends inside a list, or before a form.
+    End,
+    /// A `)` that closes nothing.
+    Close,
+    /// A dot with no form before it, or that isn't followed by exactly one form and `)`.
+    Dot,
+    /// A word that begins with `0x` and hasn't an even number of hexadecimal digits, at least two.
+    Hex,
+    /// A word that begins like a number and is none of 128 bits.
+    Number,
+    /// A quoted text without its end.
+    Text,
+    /// A byte that no token begins with.
+    Byte,
+    /// More than 1,024 lists in one another.
+    Deep,
+}

@@ -1,0 +1,13 @@
+use Rattle.std.proofs.Common.{length, ap, arith}
+use Rattle.clvm_tree.proofs.ArenaLaws.{length-trees_of}
+use Rattle.clvm_tree.proofs.arena.Trees.len.Goals as goal
+
+pub returns-clause-count : goal.returns-clause-count
+returns-clause-count c =
+    let long = length-trees_of c.self.inside.bytes.items c.self.inside.entries.items in
+    omega (arith, long, ap length c.self.view_is, c.self.inside.entries.ok.0)
+
+pub returns-clause-few : goal.returns-clause-few
+returns-clause-few c =
+    let long = length-trees_of c.self.inside.bytes.items c.self.inside.entries.items in
+    omega (arith, long, ap length c.self.view_is, c.self.invariant.few)

@@ -1,0 +1,34 @@
+-- The trees that the entries of an arena stand for. Nil and the atom 01 stand before the entries.
+use Rattle.std.specs.Prelude.{ℕ, suc, ◌+◌, ◌^◌, ◌<◌, ◌≤◌, List, [], ◌∷◌, ◌++◌, length, slice_range}
+use Rattle.clvm_spec.specs.Tree.{Tree, Atom, Pair, nil}
+use Rattle.clvm_tree.specs.Nodes.{tree_at}
+use Rattle.clvm_tree.specs.declared.arena.Entry.{Entry}
+use Rattle.clvm_tree.specs.declared.arena.Entry.TheVariants.{Bytes, Two}
+
+-- the tree of an entry behind these trees
+abbrev pub entry_tree : List ℕ → List Tree → Entry → Tree
+entry_tree bytes trees (Bytes start end) = Atom (slice_range bytes start end)
+entry_tree bytes trees (Two first rest) = Pair (tree_at trees first.0) (tree_at trees rest.0)
+
+-- these trees and those of the entries
+abbrev pub built : List ℕ → List Tree → List Entry → List Tree
+built bytes trees [] = trees
+built bytes trees (entry ∷ entries) = built bytes (trees ++ entry_tree bytes trees entry ∷ []) entries
+
+abbrev pub trees_of : List ℕ → List Entry → List Tree
+trees_of bytes entries = built bytes (nil ∷ Atom (1 ∷ []) ∷ []) entries
+
+-- An entry at this place speaks of earlier nodes and of bytes that are there.
+abbrev pub IsSoundAt : ℕ → ℕ → Entry → Type 0
+IsSoundAt place size (Bytes start end) = (start ≤ end) × (end ≤ size)
+IsSoundAt place size (Two first rest) = (first.0 < place) × (rest.0 < place)
+
+-- the same of entries from this place on
+abbrev pub AreSound : ℕ → ℕ → List Entry → Type 0
+AreSound place size [] = Unit {0}
+AreSound place size (entry ∷ entries) = IsSoundAt place size entry × AreSound (suc place) size entries
+
+pub record IsArena (entries : List Entry) (bytes : List ℕ) : Type 0 where
+  pub sound : AreSound 2 (length bytes) entries
+  pub few : length entries + 2 < 2 ^ 31
+  pub short : length bytes < 2 ^ 32

@@ -1,0 +1,60 @@
+-- What the calls that read a tree answer, by what stands at the front of the bytes.
+use Rattle.std.specs.Prelude.{◌≡◌, ℕ, ◌<◌, ◌≤◌, List, [], ◌∷◌, length, take, drop, Option, Some, None}
+use Rattle.clvm_spec.specs.Tree.{Tree}
+use Rattle.clvm_spec.specs.Spelling.{Spells}
+use Rattle.clvm_spec.specs.Reading.{Flaw, Read, Found, Faulty, with_first, with_both, tree_at_front}
+use Rattle.clvm_spec.specs.Reading
+use Rattle.clvm_tree.specs.Nodes.{tree_at, IsKnown}
+use Rattle.clvm_tree.specs.declared.Node.{Node}
+use Rattle.clvm_tree.specs.declared.ReadFault.{ReadFault}
+use Rattle.clvm_tree.specs.declared.ReadFault.TheVariants.{Cut, LongSpelling, BadPrefix, Left, OutOfMemory}
+
+-- The node is the tree at the front, and so many bytes spell it.
+pub record IsReadAs (trees : List Tree) (bytes : List ℕ) (node count : ℕ) : Type 0 where
+  pub known : IsKnown trees node
+  pub within : count ≤ length bytes
+  pub found : tree_at_front bytes ≡ Found (tree_at trees node) (drop count bytes)
+  pub spelled : Spells (tree_at trees node) (take count bytes)
+
+-- A reader who walks from the front first meets this flaw, at this place.
+pub record HasFlawAt (bytes : List ℕ) (flaw : Flaw) (place : ℕ) : Type 0 where
+  pub within : place < length bytes
+  pub found : tree_at_front bytes ≡ Faulty flaw (drop place bytes)
+
+abbrev pub IsReadFault : List ℕ → ReadFault → Type 0
+IsReadFault bytes Cut = (rest : List ℕ) × (tree_at_front bytes ≡ Faulty Reading.Cut rest)
+IsReadFault bytes (LongSpelling place) = HasFlawAt bytes Reading.LongSpelling place
+IsReadFault bytes (BadPrefix place) = HasFlawAt bytes Reading.BadPrefix place
+IsReadFault bytes (Left place) = ⊥
+IsReadFault bytes OutOfMemory = Unit {0}
+
+-- A tree stands at the front, and more bytes behind it from this place on.
+pub record EndsAt (bytes : List ℕ) (place : ℕ) : Type 0 where
+  pub tree : Tree
+  pub within : place < length bytes
+  pub found : tree_at_front bytes ≡ Found tree (drop place bytes)
+
+abbrev pub IsWholeFault : List ℕ → ReadFault → Type 0
+IsWholeFault bytes Cut = IsReadFault bytes Cut
+IsWholeFault bytes (LongSpelling place) = IsReadFault bytes (LongSpelling place)
+IsWholeFault bytes (BadPrefix place) = IsReadFault bytes (BadPrefix place)
+IsWholeFault bytes (Left place) = EndsAt bytes place
+IsWholeFault bytes OutOfMemory = Unit {0}
+
+-- what is read in all, where pairs are open, the outermost first: of each nothing yet, or its first
+abbrev pub resumed : List Tree → List (Option Node) → Read → Read
+resumed trees [] read = read
+resumed trees (None ∷ begun) read = with_both tree_at_front (resumed trees begun read)
+resumed trees (Some first ∷ begun) read = with_first (tree_at trees first.0) (resumed trees begun read)
+
+abbrev pub AreOpen : List Tree → List (Option Node) → Type 0
+AreOpen trees [] = Unit {0}
+AreOpen trees (None ∷ begun) = AreOpen trees begun
+AreOpen trees (Some first ∷ begun) = IsKnown trees first.0 × AreOpen trees begun
+
+-- After a tree is read, the open pairs that end with it are closed: either all are, or one awaits its rest.
+abbrev pub Closes : List Tree → List (Option Node) → Tree → List Tree → List (Option Node) → Option Node → Type 0
+Closes old begun tree new still (Some whole) =
+    IsKnown new whole.0 × ((rest : List ℕ) → resumed old begun (Found tree rest) ≡ Found (tree_at new whole.0) rest)
+Closes old begun tree new still None =
+    AreOpen new still × ((rest : List ℕ) → resumed old begun (Found tree rest) ≡ resumed new still (tree_at_front rest))

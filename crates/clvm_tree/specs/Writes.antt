@@ -1,0 +1,26 @@
+-- What is to be written of nodes.
+use Rattle.std.specs.Prelude.{ℕ, ◌≤◌, List, [], ◌∷◌, ◌++◌, length}
+use Rattle.clvm_spec.specs.Tree.{Tree}
+use Rattle.clvm_spec.specs.Spelling.{spelling, HasSpelling}
+use Rattle.clvm_tree.specs.Nodes.{tree_at, IsKnown}
+use Rattle.clvm_tree.specs.declared.Node.{Node}
+use Rattle.clvm_tree.specs.declared.WriteFault.{WriteFault}
+use Rattle.clvm_tree.specs.declared.WriteFault.TheVariants.{TooLong, OutOfMemory}
+
+-- The tree has a spelling, of at most so many bytes.
+pub record HasSpellingWithin (most : ℕ) (tree : Tree) : Type 0 where
+  pub spelled : HasSpelling tree
+  pub within : length (spelling tree) ≤ most
+
+abbrev pub IsWriteFault : ℕ → Tree → WriteFault → Type 0
+IsWriteFault most tree TooLong = HasSpellingWithin most tree → ⊥
+IsWriteFault most tree OutOfMemory = Unit {0}
+
+-- the spellings of pending nodes, the last of them first
+abbrev pub spellings : List Tree → List Node → List ℕ
+spellings trees [] = []
+spellings trees (node ∷ above) = spellings trees above ++ spelling (tree_at trees node.0)
+
+abbrev pub AreKnown : List Tree → List Node → Type 0
+AreKnown trees [] = Unit {0}
+AreKnown trees (node ∷ nodes) = IsKnown trees node.0 × AreKnown trees nodes

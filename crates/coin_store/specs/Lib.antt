@@ -1,0 +1,3 @@
+pub mod DistinctIds
+pub mod Entries
+pub mod Inside

@@ -1,0 +1,8 @@
+mod AdmitLaws
+mod Amounts
+mod CostLaws
+mod Digits
+mod IdLaws
+mod JudgeLaws
+mod PaymentLaws
+mod SpelledLaws

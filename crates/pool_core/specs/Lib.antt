@@ -1,0 +1,10 @@
+pub mod Admissions
+pub mod Costs
+pub mod IdSets
+pub mod ItemView
+pub mod JudgedItems
+pub mod Payments
+pub mod PaymentSums
+pub mod SpendPayments
+pub mod Triples
+pub mod Verdicts

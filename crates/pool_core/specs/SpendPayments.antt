@@ -1,0 +1,33 @@
+-- What the pool reads of a spend.
+use Rattle.std.specs.Prelude.{◌≡◌, Bool, true, false, List, map, Option, option_map, MatchOption}
+use Rattle.std.specs.List.{list_all}
+use Rattle.clvm_spec.specs.Tree.{Tree}
+use Rattle.clvm_spec.specs.Hashing.{tree_hash}
+use Rattle.coin_facts.specs.declared.coin.Coin.{Coin}
+use Rattle.coin_facts.specs.CoinId.{coin_id}
+use Rattle.block_form.specs.declared.spend.Spend.{Spend}
+use Rattle.block_form.specs.Spelled.{spelled_tree}
+use Rattle.chain_spec.specs.Judgement.{created_by}
+use Rattle.pool_spec.specs.Payment.{pays}
+use Rattle.pool_core.specs.declared.payment.Payment.{Payment}
+use Rattle.pool_core.specs.Payments.{quoted_coins}
+
+abbrev pub payment_at : Coin → Tree → Option Payment
+payment_at coin puzzle = option_map (λ coins. record { puzzle_hash = record { bytes = tree_hash puzzle }; created = coins }) (quoted_coins (coin_id coin) puzzle)
+
+-- whether a spend's puzzle pays
+abbrev pub is_paying : Spend → Bool
+is_paying spend = pays (spelled_tree spend.puzzle)
+
+-- the payment of a spend whose puzzle pays
+abbrev pub payment_of : Spend → Payment
+payment_of spend = record { puzzle_hash = record { bytes = tree_hash (spelled_tree spend.puzzle) }; created = created_by spend }
+
+-- what is found of a spend: its payment, where it pays
+abbrev pub IsPayment : Spend → Option Payment → Type 0
+IsPayment spend found = MatchOption found (is_paying spend ≡ false) (λ payment. (is_paying spend ≡ true) × (payment ≡ payment_of spend))
+
+-- the spends all pay, and these are their payments
+pub record ArePayments (spends : List Spend) (payments : List Payment) : Type 0 where
+  pub all_pay : list_all is_paying spends ≡ true
+  pub each : payments ≡ map payment_of spends

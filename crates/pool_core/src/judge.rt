@@ -1,0 +1,134 @@
+ghost use Rattle.std.specs.Prelude.{◌≡◌, ◌+◌, ◌<◌, ◌≤◌, ◌^◌, true, [], length, IfOk, IfErr};
+ghost use Rattle.std.specs.List.{list_all};
+ghost use Rattle.chain_spec.specs.Judgement.{Verdict, Broken, judgement, spend_by_spend};
+ghost use Rattle.chain_spec.specs.Judgement as judged;
+ghost use Rattle.pool_core.specs.SpendPayments.{is_paying, payment_of, ArePayments};
+ghost use Rattle.pool_core.specs.Costs.{added_cost, grown_cost, HasCost};
+ghost use Rattle.pool_core.specs.Verdicts.{IsRefusal};
+ghost use Rattle.pool_core.specs.declared.fault.AdmitFault.TheVariants as admit_fault;
+
+use crate::fault::AdmitFault;
+use crate::ids::{created_ids, first_repeat, first_unknown, spent_ids};
+use crate::payment::{Payment, payments};
+use crate::sums::{created_amount, spent_amount};
+use block_form::{Spend, added_bytes};
+use coin_store::Store;
+use std::alloc::Global;
+
+const BYTE_COST: u64 = 12_000;
+// The generator of no spend has five bytes.
+const BASE_COST: u64 = 60_000;
+
+const QUOTE_COST: u64 = 20;
+
+const CREATE_COIN_COST: u64 = 1_800_000;
+
+/// What a list of spends costs, and the fee that it leaves.
+#[derive(Clone, Copy, Debug)]
+pub(crate) struct Fine {
+    pub(crate) cost: u64,
+    pub(crate) fee: u128,
+}
+
+/// The rule that is broken, and at which spend.
+#[derive(Clone, Copy, Debug)]
+struct Breach {
+    rule: u8,
+    place: u32,
+}
+
+impl From<Breach> for AdmitFault {
+    ghost from_gives = { λ breach fault. fault ≡ admit_fault.Refused breach.rule breach.place };
+
+    fn from(breach: Breach) -> AdmitFault {
+        AdmitFault::Refused {
+            rule: breach.rule,
+            place: breach.place,
+        }
+    }
+}
+
+// What a spend adds to the cost of its list.
+fn added_cost(spend: &Spend, payment: &Payment) -> u64
+    requires pays { is_paying spend.now ≡ true }
+    requires payment { payment.now ≡ payment_of spend.now }
+    ensures value { result ≡ added_cost spend.now }
+    ensures small { result < 2 ^ 60 }
+{
+    let coins = payment.created.as_slice().len() as u64;
+    BYTE_COST * added_bytes(spend) + (QUOTE_COST + CREATE_COIN_COST * coins)
+}
+
+// The cost with one spend more, or the rule that is broken at it.
+fn grown_cost(spend: &Spend, payment: &Payment, cost: u64, limit: u64) -> Result<u64, u8>
+    requires pays { is_paying spend.now ≡ true }
+    requires payment { payment.now ≡ payment_of spend.now }
+    requires small { cost < 2 ^ 60 }
+    ensures { result ≡ grown_cost limit cost spend.now }
+{
+    if payment.puzzle_hash != spend.coin.puzzle_hash {
+        return Err(3);
+    }
+    let grown = cost + added_cost(spend, payment);
+    if grown > limit { Err(5) } else { Ok(grown) }
+}
+
+// The rules 3 and 5, spend by spend; the cost where neither is broken.
+fn list_cost(spends: &[Spend], payments: &[Payment], limit: u64) -> Result<u64, Breach>
+    requires limit { limit ≤ 22_000_000_000 }
+    requires few { length spends.now < 2 ^ 32 }
+    requires payments { ArePayments spends.now payments.now }
+    ensures ok { IfOk result (HasCost limit spends.now) }
+    ensures err { IfErr result (λ breach. (after : Verdict) → spend_by_spend limit [] spends.now after ≡ Broken breach.rule breach.place) }
+{
+    let mut cost = BASE_COST;
+    for (place, spend) in spends.iter().enumerate() {
+        match grown_cost(spend, &payments[place], cost, limit) {
+            Ok(grown) => cost = grown,
+            Err(rule) => {
+                return Err(Breach {
+                    rule,
+                    place: place as u32,
+                });
+            }
+        }
+    }
+    Ok(cost)
+}
+
+/// The verdict on spends whose puzzles all pay: their cost and fee, or the first broken rule with its place.
+pub(crate) fn judge(
+    alloc: Global,
+    store: &Store,
+    spends: &[Spend],
+    limit: u64,
+) -> Result<Fine, AdmitFault>
+    requires limit { limit ≤ 22_000_000_000 }
+    requires few { length spends.now < 2 ^ 32 }
+    requires pays { list_all is_paying spends.now ≡ true }
+    ensures ok { IfOk result (λ fine. judgement store.now spends.now limit ≡ judged.Fine fine.cost fine.fee) }
+    ensures small { IfOk result (λ fine. fine.fee < 2 ^ 96) }
+    ensures positive { IfOk result (λ fine. 1 ≤ fine.cost) }
+    ensures err { IfErr result (IsRefusal (judgement store.now spends.now limit)) }
+{
+    let spent = spent_ids(alloc, spends)?;
+    if let Some(place) = first_repeat(alloc, &spent)? {
+        return Err(AdmitFault::Refused {
+            rule: 2,
+            place: place as u32,
+        });
+    }
+    let Some(payments) = payments(alloc, spends)? else {
+        unreachable!()
+    };
+    let cost = list_cost(spends, &payments, limit)?;
+    let created = created_ids(alloc, &payments)?;
+    if let Some(place) = first_unknown(alloc, store, &spent, &created)? {
+        return Err(AdmitFault::Refused {
+            rule: 11,
+            place: place as u32,
+        });
+    }
+    let fee = spent_amount(spends).saturating_sub(created_amount(&payments));
+    Ok(Fine { cost, fee })
+}
