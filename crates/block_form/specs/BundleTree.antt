@@ -1,5 +1,5 @@
--- The trees of spends, of their generator and of a bundle. Source: the generator is that of the Chia documentation
--- in its quoted form; the bundle's id is this project's own.
+-- The trees of spends, of their generator and of a bundle. Source: the quoted generator and the id of a bundle are this
+-- project's own.
 use Rattle.std.specs.Prelude.{pos, List, [], ◌∷◌, map}
 use Rattle.clvm_spec.specs.Tree.{Tree, Atom, Pair, list_tree}
 use Rattle.clvm_spec.specs.Numbers.{shortest_atom}

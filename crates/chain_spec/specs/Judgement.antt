@@ -1,5 +1,5 @@
--- The verdict on a list of spends. Source: Chia documentation of the coin set and of the mempool; the numbers of the
--- rules, their order and places, and the cost of a list are this project's own.
+-- The verdict on a list of payments, which break none of the rules but those below. Source: Chia documentation of the coin
+-- set and of the mempool; the numbers of the rules, their order and places, and the cost of a list are this project's own.
 use Rattle.std.specs.Prelude.{ℕ, suc, ◌+◌, ◌*◌, ◌-◌, ◌||◌, List, [], ◌∷◌, ◌++◌, length, nat_lt, map, Bool, not, Option, Some, None, option_and_then, option_map, unwrap_or, position, if◌then◌else◌}
 use Rattle.std.specs.List.{sum_by, flat_map, list_any}
 use Rattle.std.specs.Str.{bytes_eq}

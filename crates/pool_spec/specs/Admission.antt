@@ -1,4 +1,5 @@
--- Admission of a bundle to the pool. Source: Chia documentation of the mempool; the answers are this project's own.
+-- Admission of a payment to an empty pool. Source: Chia documentation of the mempool; the capacity, the order of the tests
+-- and the answers are this project's own.
 use Rattle.std.specs.Prelude.{ℕ, ◌+◌, List, [], ◌∷◌, ◌++◌, nat_lt, if◌then◌else◌}
 use Rattle.std.specs.List.{sum_by}
 use Rattle.coin_facts.specs.declared.hash32.Hash32.{Hash32}
