@@ -1,27 +1,32 @@
 -- How the cases by computation are written: trees by their text, fuel by what is used of it.
-use Rattle.std.specs.Prelude.{◌≡◌, ℕ, ◌-◌, codes, unwrap_or, option_and_then}
+use Rattle.std.specs.Prelude.{◌≡◌, ℕ, codes, unwrap_or, option_and_then}
 use Prim.Native.String.{String}
 use Rattle.clvm_spec.specs.declared.fuel.Fuel.{Fuel}
 use Rattle.clvm_spec.specs.declared.fuel.Which.{Which}
-use Rattle.clvm_spec.specs.Tree.{Tree, nil}
+use Rattle.clvm_spec.specs.Tree.{Tree, Atom}
 use Rattle.clvm_spec.specs.Outcomes.{Why, Outcome, Done, Failed, Spent, Wide}
 use Rattle.clvm_spec.specs.Evaluation.{run_outcome}
+use Rattle.clvm_spec.specs.FuelLaws.{fuel_less}
 use Rattle.clvm_spec.specs.Reading.{tree_of}
 use Rattle.clvm_spec.specs.Tokens.{hex_bytes}
 use Rattle.clvm_spec.specs.Text.{Scanned, Scans, Unreadable, Unnamed, LeftOver, scanned}
 
+-- what stands for a text that is none: no case has it as its value
+abbrev pub unreadable_tree : Tree
+unreadable_tree = Atom (codes "unreadable")
+
 abbrev pub form : Scanned → Tree
 form (Scans tree) = tree
-form (Unreadable kind place) = nil
-form (Unnamed place) = nil
-form (LeftOver place) = nil
+form (Unreadable kind place) = unreadable_tree
+form (Unnamed place) = unreadable_tree
+form (LeftOver place) = unreadable_tree
 
 abbrev pub tree : String → Tree
 tree text = form (scanned (codes text))
 
 -- the tree of a spelling in hexadecimal digits
 abbrev pub spelled : String → Tree
-spelled digits = unwrap_or (option_and_then tree_of (hex_bytes (codes digits))) nil
+spelled digits = unwrap_or (option_and_then tree_of (hex_bytes (codes digits))) unreadable_tree
 
 abbrev pub ample : Fuel
 ample = record { cost = 11_000_000_000; pairs = 16_777_216; bytes = 134_217_728; depth = 1_048_576 }
@@ -38,8 +43,11 @@ with_bytes bytes = record ample { bytes = bytes }
 abbrev pub with_depth : ℕ → Fuel
 with_depth depth = record ample { depth = depth }
 
+abbrev pub with_fuel : ℕ → ℕ → ℕ → ℕ → Fuel
+with_fuel cost pairs bytes depth = record { cost = cost; pairs = pairs; bytes = bytes; depth = depth }
+
 abbrev pub less : ℕ → ℕ → ℕ → Fuel → Fuel
-less cost pairs bytes fuel = record fuel { cost = fuel.cost - cost; pairs = fuel.pairs - pairs; bytes = fuel.bytes - bytes }
+less cost pairs bytes fuel = fuel_less (record { cost = cost; pairs = pairs; bytes = bytes }) fuel
 
 abbrev pub run : String → String → Fuel → Outcome
 run program env fuel = run_outcome (tree program) (tree env) fuel

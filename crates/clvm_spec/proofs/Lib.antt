@@ -1,4 +1,6 @@
 mod Rows
+mod CodecRows
+mod BorderRows
 pub mod TokenLaws
 pub mod FrontLaws
 pub mod NumberLaws
@@ -16,3 +18,6 @@ pub mod Steady
 pub mod Steps
 pub mod OperatorCosts
 pub mod Floor
+pub mod ScanLaws
+pub mod AtomTextLaws
+pub mod PrintedLaws

@@ -1,5 +1,5 @@
 -- Text at known trees and texts: the outcomes are computed by an independent program.
-use Rattle.std.specs.Prelude.{◌≡◌, ℕ, zero, suc, List, [], ◌∷◌, codes, refl}
+use Rattle.std.specs.Prelude.{◌≡◌, ℕ, zero, suc, true, false, List, [], ◌∷◌, codes, refl}
 use Prim.Native.String.{String}
 use Rattle.std.specs.Fmt.{digits}
 use Rattle.clvm_spec.specs.declared.scan_kind.ScanKind.{ScanKind}
@@ -10,6 +10,7 @@ use Rattle.clvm_spec.specs.Numbers.{shortest_atom, without_sign_bytes}
 use Rattle.clvm_spec.specs.OperatorTable.{operator_of, operator_named}
 use Rattle.clvm_spec.specs.Tokens.{token_of, word_token}
 use Rattle.clvm_spec.specs.Text.{Scans, Unreadable, Unnamed, LeftOver, scanned, printed}
+use Rattle.clvm_spec.specs.TextLaws.{nests_within}
 use Rattle.clvm_spec.proofs.Cases.{spelled}
 
 abbrev prints : String → String → Type 0
@@ -144,6 +145,19 @@ faults :
 unfolding digits without_sign_bytes shortest_atom operator_of operator_named token_of word_token scanned token_at tree_at_front
 faults = (refl, refl, refl, refl, refl, refl, refl, refl, refl, refl, refl, refl, refl, refl, refl, refl, refl, refl, refl, refl, refl, refl, refl, refl, refl, refl, refl, refl, refl, refl, refl, refl, refl, refl, refl, refl, refl, refl, refl, refl, refl, refl, refl, refl, refl, refl, refl, refl, refl, refl)
 
+more_texts :
+    (scanned (0x27 ∷ 0xc3 ∷ 0xa9 ∷ 0x27 ∷ []) ≡ Scans (spelled "82c3a9"))
+    × scans "5 ;é" "05"
+    × unnamed "~" 0
+    × unnamed "!" 0
+    × unnamed "+5" 0
+    × unreadable "0x12." Hex 0
+    × unnamed "(foo . 0x5)" 1
+    × unreadable "(1 . (foo" Dot 3
+    × left_over "1 foo" 2
+unfolding digits without_sign_bytes shortest_atom operator_of operator_named token_of word_token scanned token_at tree_at_front
+more_texts = (refl, refl, refl, refl, refl, refl, refl, refl, refl)
+
 -- 1,024 lists in one another are read, and one more is too deep, also behind a dot.
 opening : ℕ → List ℕ → List ℕ
 opening zero text = text
@@ -161,7 +175,23 @@ depths :
     (scanned (opening 1024 (closing 1024)) ≡ Scans (nested 1023))
     × (scanned (opening 1025 (closing 1025)) ≡ Unreadable Deep 1024)
     × (scanned (opening 1024 (codes "1 . ()")) ≡ Unreadable Deep 1028)
+    × (scanned (opening 1024 (codes "foo")) ≡ Unnamed 1024)
+    × (scanned (printed (nested 1023)) ≡ Scans (nested 1023))
+    × (scanned (printed (nested 1024)) ≡ Unreadable Deep 1024)
     × (scanned (0x61 ∷ 0x7f ∷ []) ≡ Unreadable Byte 1)
     × (scanned (0x01 ∷ []) ≡ Unreadable Byte 0)
 unfolding digits without_sign_bytes shortest_atom operator_of operator_named token_of word_token scanned token_at tree_at_front opening closing nested
-depths = (refl, refl, refl, refl, refl)
+depths = (refl, refl, refl, refl, refl, refl, refl, refl)
+
+-- No more parentheses are open at once than so many.
+nestings :
+    (nests_within 0 (codes "5") ≡ true)
+    × (nests_within 1 (codes "(1 2 3)") ≡ true)
+    × (nests_within 1 (codes "() () ()") ≡ true)
+    × (nests_within 0 (codes "()") ≡ false)
+    × (nests_within 2 (codes "(a (q . 2) 1)") ≡ true)
+    × (nests_within 1 (codes "(a (q . 2) 1)") ≡ false)
+    × (nests_within 1024 (printed (nested 1023)) ≡ true)
+    × (nests_within 1024 (printed (nested 1024)) ≡ false)
+unfolding nested operator_of shortest_atom without_sign_bytes digits
+nestings = (refl, refl, refl, refl, refl, refl, refl, refl)

@@ -1,5 +1,5 @@
--- The costed evaluation of a program in an environment. Source: CLVM reference; the four counts of fuel, and which
--- fault comes first, are this project's own.
+-- The costed evaluation of a program in an environment. Source: CLVM reference; the costs, the four counts of fuel, and
+-- which fault comes first, are this project's own.
 use Rattle.std.specs.Prelude.{ℕ, zero, suc, ◌-◌, ◌==◌, Bool, false, List, [], ◌∷◌, Option, Some, None, nat_lt, if◌then◌else◌}
 use Rattle.clvm_spec.specs.declared.fuel.Fuel.{Fuel}
 use Rattle.clvm_spec.specs.declared.fuel.Which.TheVariants.{Cost, Depth}
@@ -93,3 +93,7 @@ evaluation program env depth left = evaluated_within (suc left.cost) program env
 -- a run: evaluation at depth 0
 abbrev pub run_outcome : Tree → Tree → Fuel → Outcome
 run_outcome program env fuel = evaluation program env 0 fuel
+
+-- what a done run has cost
+abbrev pub run_cost : Fuel → Fuel → ℕ
+run_cost fuel left = fuel.cost - left.cost

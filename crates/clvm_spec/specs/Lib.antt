@@ -16,3 +16,4 @@ pub mod Evaluation
 pub mod Tokens
 pub mod Text
 pub mod FuelLaws
+pub mod TextLaws

@@ -7,8 +7,7 @@ use Rattle.std.specs.Ordering.{nat_cmp, is_gt}
 use Rattle.std.specs.Cmp.Lexicographic.{slice_cmp}
 use Rattle.std.specs.Int.{w128, int_bit_and, int_bit_or, int_bit_xor}
 use Rattle.sha2.specs.Sha256.{sha256}
-use Rattle.clvm_spec.specs.Tree.{Tree, Atom, Pair, nil}
-use Rattle.clvm_spec.specs.ProperList.{list_of}
+use Rattle.clvm_spec.specs.Tree.{Tree, Atom, Pair, nil, list_tree}
 use Rattle.clvm_spec.specs.Numbers.{unsigned, number, shortest_atom}
 use Rattle.clvm_spec.specs.Arithmetic.{fits_128, is_zero, quotient, remainder, is_shift, shifted}
 use Rattle.clvm_spec.specs.Outcomes.{WrongCount, WrongOperand, Raised, ZeroDivisor, WrongShift, Applied, Gives, Fails, TooWide}
@@ -117,17 +116,17 @@ first_of operands = one operands (λ operand. pair_at 0 operand (λ first rest. 
 abbrev pub rest_of : List Tree → Applied
 rest_of operands = one operands (λ operand. pair_at 0 operand (λ first rest. free rest 30))
 
--- l: 1 for a pair, else nil
 abbrev pub is_pair : Tree → Bool
 is_pair (Atom bytes) = false
 is_pair (Pair first rest) = true
 
+-- l: 1 for a pair, else nil
 abbrev pub pair_flag : List Tree → Applied
 pair_flag operands = one operands (λ operand. free (flag (is_pair operand)) 19)
 
 -- x: raises the list of its operands
 abbrev pub raised : List Tree → Applied
-raised operands = Fails (Raised (list_of operands))
+raised operands = Fails (Raised (list_tree operands))
 
 -- ---- atoms
 
@@ -143,7 +142,7 @@ bytes_greater_flag operands = two_atoms operands (λ a b. free (flag (is_gt (sli
 abbrev pub hash_of : List Tree → Applied
 hash_of operands = atoms operands (λ atoms. new_atom (87 + 134 * length atoms + 2 * lengths atoms + 320) (sha256 (concat atoms)))
 
--- substr: the bytes from the start to the end, where 0 <= start <= end <= length; the end is the length by default
+-- the bytes from the start to the end, where 0 <= start <= end <= length
 abbrev pub part_within : List ℕ → ℕ → ℕ → Applied
 part_within bytes start end = if nat_le start end && nat_le end (length bytes) then new_atom 1 (slice_range bytes start end) else Fails (WrongOperand 1)
 
@@ -152,6 +151,7 @@ part bytes (pos start) (pos end) = part_within bytes start end
 part bytes (pos start) (negsuc end) = Fails (WrongOperand 1)
 part bytes (negsuc start) end = Fails (WrongOperand 1)
 
+-- substr: the bytes from the start to the end; the end is the length by default
 abbrev pub part_of : List Tree → Applied
 part_of [] = Fails WrongCount
 part_of (a ∷ []) = Fails WrongCount
@@ -181,16 +181,17 @@ sum_cost atoms = 99 + 320 * length atoms + 3 * lengths atoms
 abbrev pub sum_of : List Tree → Applied
 sum_of operands = numbers operands (λ atoms. from_left ◌+ℤ◌ (pos 0) (map number atoms) (new_number (sum_cost atoms)))
 
--- -: the first less the others, 0 for none
+-- the first less the others, 0 for none
 abbrev pub less_others : List ℤ → (ℤ → Applied) → Applied
 less_others [] go = go (pos 0)
 less_others (n ∷ ns) go = from_left ◌-ℤ◌ n ns go
 
+-- -: the first less the others, 0 for none
 abbrev pub difference_of : List Tree → Applied
 difference_of operands = numbers operands (λ atoms. less_others (map number atoms) (new_number (sum_cost atoms)))
 
--- *: the product, 1 for none. Each operand after the first costs by its length and that of the running product,
--- which is the first operand's own, and then that of its shortest form.
+-- Each operand after the first costs by its length and that of the running product, which is the first operand's own,
+-- and then that of its shortest form.
 abbrev pub factor_cost : ℕ → ℕ → ℕ
 factor_cost size other = 885 + 6 * (size + other) + size * other / 128
 
@@ -203,6 +204,7 @@ abbrev pub product_from : List (List ℕ) → Applied
 product_from [] = new_number 92 (pos 1)
 product_from (a ∷ atoms) = times_others 92 (length a) (number a) atoms
 
+-- *: the product, 1 for none
 abbrev pub product_of : List Tree → Applied
 product_of operands = numbers operands product_from
 
@@ -213,13 +215,14 @@ unless_zero divisor applied = if is_zero divisor then Fails ZeroDivisor else app
 abbrev pub quotient_of : List Tree → Applied
 quotient_of operands = two_numbers operands (λ a b. unless_zero (number b) (new_number (988 + 4 * (length a + length b)) (quotient (number a) (number b))))
 
--- divmod: the pair of the quotient rounded down and the remainder
+-- a pair of two new numbers
 abbrev pub pair_of_atoms : ℕ → List ℕ → List ℕ → Applied
 pair_of_atoms cost a b = Gives (Pair (Atom a) (Atom b)) (cost + 10 * (length a + length b)) 1 ((length a + 8) + (length b + 8))
 
 abbrev pub pair_of_numbers : ℕ → ℤ → ℤ → Applied
 pair_of_numbers cost a b = if fits_128 a && fits_128 b then pair_of_atoms cost (shortest_atom a) (shortest_atom b) else TooWide
 
+-- divmod: the pair of the quotient rounded down and the remainder
 abbrev pub quotient_and_remainder : List Tree → Applied
 quotient_and_remainder operands = two_numbers operands (λ a b. unless_zero (number b) (pair_of_numbers (1116 + 6 * (length a + length b)) (quotient (number a) (number b)) (remainder (number a) (number b))))
 
@@ -227,16 +230,18 @@ quotient_and_remainder operands = two_numbers operands (λ a b. unless_zero (num
 abbrev pub greater_flag : List Tree → Applied
 greater_flag operands = two_numbers operands (λ a b. free (flag (int_lt (number b) (number a))) (498 + 2 * (length a + length b)))
 
--- ash: the value times 2 ^ shift, rounded down. lsh: the same of the value read without sign
+-- a number times 2 ^ shift, rounded down. One that 128 bits don't hold is too wide, whatever its shortest atom is said to be.
 abbrev pub shifted_number : ℕ → ℕ → ℤ → Applied
 shifted_number cost size n = new_number (cost + 3 * (size + length (shortest_atom n))) n
 
 abbrev pub shift : ℕ → ℕ → ℤ → ℤ → Applied
 shift cost size n by = if is_shift by then shifted_number cost size (shifted n by) else Fails WrongShift
 
+-- ash: the value times 2 ^ shift, rounded down
 abbrev pub shift_of_number : List Tree → Applied
 shift_of_number operands = two_numbers operands (λ a by. shift 596 (length a) (number a) (number by))
 
+-- lsh: the same of the value read without sign
 abbrev pub shift_of_bits : List Tree → Applied
 shift_of_bits operands = two_numbers operands (λ a by. shift 277 (length a) (pos (unsigned a)) (number by))
 

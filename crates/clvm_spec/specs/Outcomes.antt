@@ -20,7 +20,7 @@ pub data Why : Type 0 where
   ZeroDivisor : Why
   -- A shift by more than 65,535 either way.
   WrongShift : Why
-  -- There is no operator of that code.
+  -- There is no operator of that code, or a pair stands where the operator does.
   NoOperator : Why
 
 -- what an operator gives of its operands

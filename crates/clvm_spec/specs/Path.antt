@@ -1,4 +1,4 @@
--- An atom as a path into an environment. Source: CLVM reference.
+-- An atom as a path into an environment. Source: CLVM reference; the costs as they stand here are this project's own.
 use Rattle.std.specs.Prelude.{ℕ, zero, suc, ◌+◌, ◌*◌, ◌/◌, ◌%◌, ◌==◌, List, [], ◌∷◌, length, nat_le, if◌then◌else◌}
 use Rattle.clvm_spec.specs.Tree.{Tree, Atom, Pair, nil}
 use Rattle.clvm_spec.specs.Numbers.{unsigned}

@@ -1,14 +1,9 @@
 -- Lists of trees as trees. Source: CLVM reference.
 use Rattle.std.specs.Prelude.{List, [], ◌∷◌, Option, Some, None, option_map}
-use Rattle.clvm_spec.specs.Tree.{Tree, Atom, Pair, nil}
+use Rattle.clvm_spec.specs.Tree.{Tree, Atom, Pair}
 
 -- the elements of a proper list, which nil ends
 abbrev pub elements : Tree → Option (List Tree)
 elements (Atom []) = Some []
 elements (Atom (b ∷ bytes)) = None
 elements (Pair first rest) = option_map (λ more. first ∷ more) (elements rest)
-
--- the proper list of these elements
-abbrev pub list_of : List Tree → Tree
-list_of [] = nil
-list_of (first ∷ rest) = Pair first (list_of rest)

@@ -73,10 +73,11 @@ abbrev pub code_of : Option Operator → Tree
 code_of None = nil
 code_of (Some row) = Atom (row.code ∷ [])
 
--- What the text is in, of this many parentheses, goes on behind `(`, if that isn't one too many.
+-- how what stands in a list is read, from inside so many parentheses on, behind an element of it or at its front
 abbrev pub InList : Type 0
 InList = ℕ → Bool → List ℕ → Parsed
 
+-- A `(` opens a list, if it isn't one too many.
 abbrev pub opened : InList → ℕ → List ℕ → List ℕ → Parsed
 opened list depth from rest = if nat_lt depth 1024 then list (suc depth) false rest else Breaks Deep from
 

@@ -10,6 +10,7 @@ mod numbers;
 pub mod scan_kind;
 #[cfg(test)]
 mod tests;
+pub mod text_laws;
 
 pub use fuel::{Fuel, Which};
 pub use numbers::shortest_bytes;

@@ -1,0 +1,5 @@
+use Rattle.clvm_spec.proofs.ScanLaws.{list_step}
+use Rattle.clvm_spec.proofs.text_laws.list_is_its_step.Goals as goal
+
+pub returns : goal.returns
+returns c = list_step

@@ -1,0 +1,48 @@
+-- What bounds the definition of scanning, and what scanning makes of what printing wrote: laws of the definitions, each
+-- proved once for the crates above.
+use Rattle.std.specs.Prelude.{◌≡◌, ℕ, suc, ◌-◌, ◌==◌, ◌≤◌, Bool, true, false, not, ◌&&◌, ◌||◌, List, [], ◌∷◌, length, nat_lt, if◌then◌else◌}
+use Rattle.clvm_spec.specs.declared.scan_kind.ScanKind.TheVariants.{Deep}
+use Rattle.clvm_spec.specs.Tree.{Tree, Atom, Pair}
+use Rattle.clvm_spec.specs.Laws.{AreBytes}
+use Rattle.clvm_spec.specs.Tokens.{token_of}
+use Rattle.clvm_spec.specs.Text.{printed, InList, form_at, list_at, list_within, form_of, unnamed_within, Scans, Unreadable, scanned}
+
+-- what stands in a list, with nothing to bound it
+abbrev pub list_from : InList
+list_from depth begun text = list_within (suc (length text)) depth begun text
+
+-- Each token takes a byte, so the definition's bound is no part of its meaning: any number of the text's length
+-- or above gives the same.
+abbrev pub FormsAreWithinTheText : Type 0
+FormsAreWithinTheText = (bound : ℕ) (text : List ℕ) → length text ≤ bound → form_at (list_within bound) 0 (token_of text) ≡ form_of text
+
+abbrev pub NamesAreWithinTheText : Type 0
+NamesAreWithinTheText = (bound : ℕ) (text : List ℕ) (end : ℕ) (rest : List ℕ) → length rest ≤ bound →
+    unnamed_within bound text end rest ≡ unnamed_within (length rest) text end rest
+
+-- So what stands in a list is what its first token begins, with the same for what is behind it.
+abbrev pub ListIsItsStep : Type 0
+ListIsItsStep = (depth : ℕ) (begun : Bool) (text : List ℕ) → list_from depth begun text ≡ list_at list_from depth begun (token_of text)
+
+-- whether a text never has more parentheses open at once than so many
+abbrev pub may_open : ℕ → ℕ → Bool
+may_open room b = not (b == 0x28) || nat_lt 0 room
+
+abbrev pub room_behind : ℕ → ℕ → ℕ
+room_behind room b = if b == 0x28 then room - 1 else (if b == 0x29 then suc room else room)
+
+abbrev pub nests_within : ℕ → List ℕ → Bool
+nests_within room [] = true
+nests_within room (b ∷ text) = may_open room b && nests_within (room_behind room b) text
+
+abbrev pub HasBytes : Tree → Type 0
+HasBytes (Atom bytes) = AreBytes bytes
+HasBytes (Pair first rest) = HasBytes first × HasBytes rest
+
+-- What is printed of a tree is scanned as that tree, where it nests at most 1,024 parentheses.
+abbrev pub PrintedIsScanned : Type 0
+PrintedIsScanned = (tree : Tree) → HasBytes tree → nests_within 1024 (printed tree) ≡ true → scanned (printed tree) ≡ Scans tree
+
+-- Where it nests more, it is too deep.
+abbrev pub PrintedTooDeep : Type 0
+PrintedTooDeep = (tree : Tree) → HasBytes tree → nests_within 1024 (printed tree) ≡ false → (place : ℕ) × (scanned (printed tree) ≡ Unreadable Deep place)
