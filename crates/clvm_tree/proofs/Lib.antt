@@ -4,3 +4,4 @@ pub mod MarkLaws
 pub mod ResumeLaws
 pub mod DigitLaws
 pub mod PendingLaws
+pub mod OperatorLaws

@@ -3,8 +3,8 @@ use Rattle.std.proofs.Common.{◌≡◌, ℕ, List, [], ◌∷◌, ◌++◌, len
 use Rattle.std.proofs.lemmas.List.{append-nil, length-append}
 use Rattle.clvm_spec.specs.Tree.{Tree}
 use Rattle.clvm_spec.specs.Spelling.{spelling}
-use Rattle.clvm_tree.specs.Nodes.{tree_at, IsKnown, HasParts}
-use Rattle.clvm_tree.specs.Writes.{spellings, AreKnown, HasSpellingWithin, IsWriteFault}
+use Rattle.clvm_tree.specs.Nodes.{tree_at, IsKnown, AreKnown, HasParts}
+use Rattle.clvm_tree.specs.Writes.{spellings, HasSpellingWithin, IsWriteFault}
 use Rattle.clvm_tree.specs.declared.Node.{Node}
 use Rattle.clvm_tree.specs.declared.WriteFault.{WriteFault}
 use Rattle.clvm_tree.specs.declared.WriteFault.TheVariants.{TooLong, OutOfMemory}

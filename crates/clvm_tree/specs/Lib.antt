@@ -6,3 +6,4 @@ pub mod Pieces
 pub mod Reads
 pub mod Numbers
 pub mod Writes
+pub mod Operators

@@ -1,7 +1,8 @@
 -- What contracts say of the nodes of a `Trees`, which they see as the list of the trees that its nodes stand for.
 -- A node is its place in that list. This project's own.
-use Rattle.std.specs.Prelude.{◌≡◌, ℕ, ◌+◌, ◌<◌, ◌≤◌, List, ◌++◌, length, slice_index_or}
+use Rattle.std.specs.Prelude.{◌≡◌, ℕ, ◌+◌, ◌<◌, ◌≤◌, List, [], ◌∷◌, ◌++◌, length, slice_index_or}
 use Rattle.clvm_spec.specs.Tree.{Tree, Atom, Pair, nil}
+use Rattle.clvm_tree.specs.declared.Node.{Node}
 
 -- the tree that a node stands for
 abbrev pub tree_at : List Tree → ℕ → Tree
@@ -10,6 +11,10 @@ tree_at trees node = slice_index_or trees node nil
 -- The node is one of these trees.
 abbrev pub IsKnown : List Tree → ℕ → Type 0
 IsKnown trees node = node < length trees
+
+abbrev pub AreKnown : List Tree → List Node → Type 0
+AreKnown trees [] = Unit {0}
+AreKnown trees (node ∷ nodes) = IsKnown trees node.0 × AreKnown trees nodes
 
 -- Earlier nodes stand: the new trees are the old ones and maybe more behind them.
 abbrev pub Grows : List Tree → List Tree → Type 0

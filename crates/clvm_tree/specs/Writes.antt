@@ -2,7 +2,7 @@
 use Rattle.std.specs.Prelude.{ℕ, ◌≤◌, List, [], ◌∷◌, ◌++◌, length}
 use Rattle.clvm_spec.specs.Tree.{Tree}
 use Rattle.clvm_spec.specs.Spelling.{spelling, HasSpelling}
-use Rattle.clvm_tree.specs.Nodes.{tree_at, IsKnown}
+use Rattle.clvm_tree.specs.Nodes.{tree_at}
 use Rattle.clvm_tree.specs.declared.Node.{Node}
 use Rattle.clvm_tree.specs.declared.WriteFault.{WriteFault}
 use Rattle.clvm_tree.specs.declared.WriteFault.TheVariants.{TooLong, OutOfMemory}
@@ -20,7 +20,3 @@ IsWriteFault most tree OutOfMemory = Unit {0}
 abbrev pub spellings : List Tree → List Node → List ℕ
 spellings trees [] = []
 spellings trees (node ∷ above) = spellings trees above ++ spelling (tree_at trees node.0)
-
-abbrev pub AreKnown : List Tree → List Node → Type 0
-AreKnown trees [] = Unit {0}
-AreKnown trees (node ∷ nodes) = IsKnown trees node.0 × AreKnown trees nodes

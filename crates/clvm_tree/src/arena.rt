@@ -84,7 +84,7 @@ impl Trees {
     }
 
     /// An atom of these bytes. Earlier nodes stand; without memory there is no further node.
-    pub fn atom(&mut self, bytes: &[u8]) -> Result<Node, OutOfMemory>
+    pub fn atom(&mut self, alloc: Global, bytes: &[u8]) -> Result<Node, OutOfMemory>
         requires { length self.old + 1 < 2 ^ 31 }
         ensures ok { IfOk result (λ node. Adds self.old self.new node.0 (Atom bytes.now)) }
         ensures out_of_memory { OnErr result (self.new ≡ self.old) }
@@ -92,11 +92,11 @@ impl Trees {
         match bytes {
             [] => Ok(self.nil()),
             [byte] if *byte == 1 => Ok(self.one()),
-            _ => self.add_atom(bytes),
+            _ => self.add_atom(alloc, bytes),
         }
     }
 
-    fn add_atom(&mut self, bytes: &[u8]) -> Result<Node, OutOfMemory>
+    fn add_atom(&mut self, _alloc: Global, bytes: &[u8]) -> Result<Node, OutOfMemory>
         requires { length self.old + 1 < 2 ^ 31 }
         ensures ok { IfOk result (λ node. Adds self.old self.new node.0 (Atom bytes.now)) }
         ensures out_of_memory { OnErr result (self.new ≡ self.old) }
@@ -115,7 +115,7 @@ impl Trees {
     }
 
     /// The pair of two nodes. Earlier nodes stand; without memory there is no further node.
-    pub fn pair(&mut self, first: Node, rest: Node) -> Result<Node, OutOfMemory>
+    pub fn pair(&mut self, _alloc: Global, first: Node, rest: Node) -> Result<Node, OutOfMemory>
         requires fits { length self.old + 1 < 2 ^ 31 }
         requires first_known { IsKnown self.old first.0 }
         requires rest_known { IsKnown self.old rest.0 }

@@ -1,4 +1,4 @@
-//! CLVM trees in an arena: their spelling as bytes, their hash, and the numbers of atoms.
+//! CLVM trees in an arena: their spelling as bytes, their hash, the numbers of atoms, and tables of operators on them.
 #![tactic(auto)]
 
 ghost use Rattle.std.specs.Prelude.{◌≡◌};
@@ -8,12 +8,15 @@ ghost use Rattle.clvm_tree.specs.declared.WriteFault.TheVariants as write_fault;
 mod arena;
 mod hasher;
 mod numbers;
+mod operators;
 mod reader;
 mod tokens;
 mod writer;
 
 pub use arena::{Sight, Trees};
+pub use clvm_spec::{Fuel, Which};
 pub use hasher::{Hash, atom_hash, pair_hash};
+pub use operators::{Answer, OpFault, Operators};
 /// The error of a call that fails only for want of memory.
 pub use std::alloc::AllocError as OutOfMemory;
 use std::alloc::AllocFailed;

@@ -7,6 +7,7 @@ ghost use Rattle.clvm_tree.specs.Numbers.{short_number, number_in};
 use crate::arena::{Sight, Trees};
 use crate::{Node, OutOfMemory};
 use clvm_spec::shortest_bytes;
+use std::alloc::Global;
 
 fn unsigned(bytes: &[u8]) -> u128
     requires { length bytes.now ≤ 16 }
@@ -57,12 +58,12 @@ impl Trees {
     }
 
     /// The shortest atom of a number. Earlier nodes stand; without memory there is no further node.
-    pub fn put_number(&mut self, number: i128) -> Result<Node, OutOfMemory>
+    pub fn put_number(&mut self, alloc: Global, number: i128) -> Result<Node, OutOfMemory>
         requires { length self.old + 1 < 2 ^ 31 }
         ensures ok { IfOk result (λ node. Adds self.old self.new node.0 (Atom (shortest_atom number))) }
         ensures out_of_memory { OnErr result (self.new ≡ self.old) }
     {
         let bytes = number.to_be_bytes();
-        self.atom(shortest_bytes(&bytes))
+        self.atom(alloc, shortest_bytes(&bytes))
     }
 }

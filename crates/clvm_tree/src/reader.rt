@@ -14,6 +14,7 @@ impl Trees {
     // first is there once it is read.
     fn close(
         &mut self,
+        alloc: Global,
         begun: &mut Vec<Option<Node>>,
         tree: Node,
     ) -> Result<Option<Node>, OutOfMemory>
@@ -27,7 +28,7 @@ impl Trees {
         let mut whole = tree;
         'pairs: while let Some(first) = begun.pop() {
             match first {
-                Some(first) => whole = self.pair(first, whole)?,
+                Some(first) => whole = self.pair(alloc, first, whole)?,
                 None => {
                     begun.push(Some(whole))?;
                     return Ok(None);
@@ -57,8 +58,8 @@ impl Trees {
                     rest = after;
                 }
                 Piece::Leaf(atom, after) => {
-                    let leaf = self.atom(atom)?;
-                    match self.close(&mut begun, leaf)? {
+                    let leaf = self.atom(alloc, atom)?;
+                    match self.close(alloc, &mut begun, leaf)? {
                         Some(tree) => return Ok((tree, bytes.len() - after.len())),
                         None => rest = after,
                     }

@@ -76,6 +76,8 @@ fn is_spelled(alloc: Global, prefix: &[u8], size: usize) -> Result<bool, WriteFa
 #[test]
 fn spells_atoms_by_their_lengths(rt: HostRuntime) -> Result<(), WriteFault> {
     for (prefix, size) in [
+        (b"".as_slice(), 1),
+        (b"\x80".as_slice(), 0),
         (b"\x82".as_slice(), 2),
         (b"\xbf".as_slice(), 63),
         (b"\xc0\x40".as_slice(), 64),
@@ -95,8 +97,8 @@ fn spells_atoms_by_their_lengths(rt: HostRuntime) -> Result<(), WriteFault> {
 fn makes_and_takes_apart(rt: HostRuntime) -> Result<(), OutOfMemory> {
     let mut trees = Trees::new(rt.alloc());
     let nil = trees.nil();
-    let atom = trees.atom(b"abc")?;
-    let pair = trees.pair(atom, nil)?;
+    let atom = trees.atom(rt.alloc(), b"abc")?;
+    let pair = trees.pair(rt.alloc(), atom, nil)?;
     assert!(rt; trees.len() == 4 && trees.as_pair(pair) == Some((atom, nil)));
     assert!(rt; trees.bytes_of(atom) == Some(b"abc".as_slice()));
     Ok(())
@@ -105,7 +107,7 @@ fn makes_and_takes_apart(rt: HostRuntime) -> Result<(), OutOfMemory> {
 // The hash of the atom of these bytes.
 fn atom_hash(alloc: Global, bytes: &[u8]) -> Result<Hash, OutOfMemory> {
     let mut trees = Trees::new(alloc);
-    let atom = trees.atom(bytes)?;
+    let atom = trees.atom(alloc, bytes)?;
     trees.hash(alloc, atom)
 }
 
@@ -119,7 +121,7 @@ fn hashes_atoms(rt: HostRuntime) -> Result<(), OutOfMemory> {
 // Whether the number's atom has these bytes and gives the number again.
 fn is_atom_of(alloc: Global, number: i128, bytes: &[u8]) -> Result<bool, OutOfMemory> {
     let mut trees = Trees::new(alloc);
-    let atom = trees.put_number(number)?;
+    let atom = trees.put_number(alloc, number)?;
     Ok(trees.bytes_of(atom) == Some(bytes) && trees.number_of(atom) == Some(number))
 }
 
@@ -133,6 +135,10 @@ fn numbers_are_twos_complement(rt: HostRuntime) -> Result<(), OutOfMemory> {
         (-128, b"\x80".as_slice()),
         (-129, b"\xff\x7f".as_slice()),
         (i128::MIN, b"\x80\0\0\0\0\0\0\0\0\0\0\0\0\0\0\0".as_slice()),
+        (
+            i128::MAX,
+            b"\x7f\xff\xff\xff\xff\xff\xff\xff\xff\xff\xff\xff\xff\xff\xff\xff".as_slice(),
+        ),
     ] {
         let is_atom = is_atom_of(rt.alloc(), number, bytes)?;
         assert!(rt; is_atom);
@@ -163,7 +169,7 @@ fn visits_shared_parts_once(rt: HostRuntime) -> Result<(), OutOfMemory> {
     let mut tree = trees.one();
     for _ in 0..60 {
         assert!(rt; is_known(&trees, tree) && trees.len() < 100);
-        tree = trees.pair(tree, tree)?;
+        tree = trees.pair(rt.alloc(), tree, tree)?;
     }
     assert!(rt; is_known(&trees, tree));
     assert!(rt; trees.write(rt.alloc(), tree, 1_000_000).err() == Some(WriteFault::TooLong));

@@ -29,14 +29,11 @@ fn push_prefix(out: &mut Vec<u8>, size: usize) -> Result<(), OutOfMemory>
 fn prefix_len(size: usize) -> usize
     ensures { result ≡ length (prefix size) }
 {
-    if size < 0x40 {
-        1
-    } else if size < 0x2000 {
-        2
-    } else if size < 0x10_0000 {
-        3
-    } else {
-        4
+    match size {
+        0..=0x3f => 1,
+        0x40..=0x1fff => 2,
+        0x2000..=0xf_ffff => 3,
+        _ => 4,
     }
 }
 

@@ -1,0 +1,57 @@
+-- What an operator gives costs something and is within what is left: for those who implement a table of operators.
+use Rattle.std.proofs.Common.{◌≡◌, ℕ, ◌≤◌, Bool, true, false, cond, ltb, List, refl, subst}
+use Rattle.std.proofs.lemmas.Bool.{ltb-false}
+use Rattle.clvm_spec.specs.declared.fuel.Fuel.{Fuel}
+use Rattle.clvm_spec.specs.declared.fuel.Which.{Which}
+use Rattle.clvm_spec.specs.Tree.{Tree, Atom, Pair}
+use Rattle.clvm_spec.specs.Outcomes.{Applied, Gives, Fails, TooWide, Lacks}
+use Rattle.clvm_spec.specs.OperatorTable.{applied, within, within_pairs, within_bytes}
+use Rattle.clvm_spec.proofs.OperatorCosts.{operators_law}
+use Rattle.clvm_tree.specs.Nodes.{tree_at}
+use Rattle.clvm_tree.specs.Operators.{outcome_by, IsWithin, AnswersAreWithin}
+use Rattle.clvm_tree.specs.declared.operators.Answer.{Answer}
+
+-- what is given where a count suffices, which otherwise lacks
+if_enough : (b : Bool) (which : Which) (x : Applied) {value : Tree} {cost pairs bytes : ℕ} → cond b (Lacks which) x ≡ Gives value cost pairs bytes → (b ≡ false) × (x ≡ Gives value cost pairs bytes)
+if_enough true which x e = absurd cc
+if_enough false which x e = (refl, e)
+
+-- what is left suffices, and without regard to it the same is given
+pub record IsCovered (left : Fuel) (a : Applied) (value : Tree) (cost pairs bytes : ℕ) : Type 0 where
+  pub same : a ≡ Gives value cost pairs bytes
+  pub cost_is : cost ≤ left.cost
+  pub pairs_are : pairs ≤ left.pairs
+  pub bytes_are : bytes ≤ left.bytes
+
+pub gives_within : (left : Fuel) (a : Applied) (value : Tree) (cost pairs bytes : ℕ) → within left a ≡ Gives value cost pairs bytes → IsCovered left a value cost pairs bytes
+gives_within left (Gives v c p y) value cost pairs bytes e =
+    let paid = if_enough (ltb left.cost c) _ (within_pairs left v c p y) e in
+    let paired = if_enough (ltb left.pairs p) _ (within_bytes left v c p y) paid.1 in
+    let made = if_enough (ltb left.bytes y) _ (Gives v c p y) paired.1 in
+    let same : Gives v c p y ≡ Gives value cost pairs bytes = made.1 in
+    let same_cost : c ≡ cost = cc in
+    let same_pairs : p ≡ pairs = cc in
+    let same_bytes : y ≡ bytes = cc in
+    record {
+      same = same;
+      cost_is = subst (λ n. n ≤ left.cost) same_cost (ltb-false left.cost c paid.0);
+      pairs_are = subst (λ n. n ≤ left.pairs) same_pairs (ltb-false left.pairs p paired.0);
+      bytes_are = subst (λ n. n ≤ left.bytes) same_bytes (ltb-false left.bytes y made.0);
+    }
+gives_within left (Fails why) value cost pairs bytes e = absurd cc
+gives_within left TooWide value cost pairs bytes e = absurd cc
+gives_within left (Lacks which) value cost pairs bytes e = absurd cc
+
+pub answer_within : (code : Tree) (operands : List Tree) (left : Fuel) (answer : Answer) (value : Tree) → outcome_by code operands left ≡ Gives value answer.cost answer.pairs answer.bytes → IsWithin left answer
+answer_within (Atom code) operands left answer value e =
+    let covered = gives_within left (applied code operands) value answer.cost answer.pairs answer.bytes e in
+    record {
+      some = operators_law code operands value answer.cost answer.pairs answer.bytes covered.same;
+      cost = covered.cost_is;
+      pairs = covered.pairs_are;
+      bytes = covered.bytes_are;
+    }
+answer_within (Pair first rest) operands left answer value e = absurd cc
+
+pub answers_law : AnswersAreWithin
+answers_law trees code operands left answer h = answer_within code operands left answer (tree_at trees answer.value.0) h.gives
