@@ -1,5 +1,5 @@
 -- The lengths of spellings, of spends and of generators.
-use Rattle.std.proofs.Common.{◌≡◌, ℕ, ◌+◌, ◌<◌, ◌≤◌, ◌==◌, pos, nat_lt, List, [], ◌∷◌, ◌++◌, length, slice_index_or, Option, Some, IsSome, unwrap_or, refl, ap, sym, ◌∙◌, arith, length-append}
+use Rattle.std.proofs.Common.{◌≡◌, ℕ, ◌+◌, ◌<◌, ◌≤◌, pos, nat_lt, List, [], ◌∷◌, ◌++◌, length, slice_index_or, Option, Some, IsSome, unwrap_or, refl, ap, sym, ◌∙◌, arith, length-append}
 use Rattle.std.specs.List.{sum_by}
 use Rattle.std.proofs.lemmas.Bool.{false≢true, cond_both, lt-ltb, cond-true}
 use Rattle.std.proofs.lemmas.List.Sums.{sum_by-cons}

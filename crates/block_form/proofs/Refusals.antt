@@ -1,9 +1,9 @@
 -- A fault of a whole reading says that the bytes spell no tree.
-use Rattle.std.proofs.Common.{◌≡◌, ◌≢◌, ℕ, ◌<◌, ◌^◌, ◌∙◌, List, [], ◌∷◌, length, drop, refl, ap, sym, arith, length-drop, Option, Some, None, Bool, false, ◌&&◌, nat_le, is_some, Result, Ok, Err, IfOk}
+use Rattle.std.proofs.Common.{◌≡◌, ◌≢◌, ℕ, ◌<◌, ◌^◌, ◌∙◌, List, [], ◌∷◌, length, drop, refl, ap, sym, arith, length-drop, None, Bool, false, ◌&&◌, nat_le, is_some, Result, Ok, Err, IfOk}
 use Rattle.std.specs.declared.alloc.AllocError.{AllocError}
 use Rattle.block_form.specs.Spelled.{is_spelled}
 use Rattle.clvm_spec.specs.Tree.{Tree}
-use Rattle.clvm_spec.specs.Reading.{Found, Faulty, if_whole, tree_of, tree_at_front}
+use Rattle.clvm_spec.specs.Reading.{Found, if_whole, tree_of}
 use Rattle.clvm_tree.specs.Reads.{IsWholeFault}
 use Rattle.clvm_tree.specs.declared.ReadFault.{ReadFault}
 use Rattle.clvm_tree.specs.declared.ReadFault.TheVariants.{Cut, LongSpelling, BadPrefix, Left, OutOfMemory}

@@ -1,4 +1,5 @@
--- What a spend adds to the spelling of its list's generator: its own tree's bytes, and one of the list.
+-- What a spend adds to the spelling of its list's generator: its own tree's bytes, and one of the list. Source: this
+-- project's own.
 use Rattle.std.specs.Prelude.{◌≡◌, ℕ, ◌+◌, List, length}
 use Rattle.std.specs.List.{sum_by}
 use Rattle.clvm_spec.specs.Spelling.{spelling}

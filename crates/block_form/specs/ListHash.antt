@@ -1,4 +1,4 @@
--- The tree hash of a proper list, from the hashes of its elements.
+-- The tree hash of a proper list, from the hashes of its elements. Source: Chialisp reference, as the tree hash.
 use Rattle.std.specs.Prelude.{ℕ, List, [], ◌∷◌, ◌++◌}
 use Rattle.sha2.specs.Sha256.{sha256}
 

@@ -1,4 +1,5 @@
--- A spend as contracts see it: the coin, and the bytes of its puzzle and of its solution.
+-- A spend as contracts see it: the coin, and the bytes of its puzzle and of its solution. Source: Chia documentation of
+-- the coin set.
 use Rattle.std.specs.Prelude.{ℕ, List}
 use Rattle.coin_facts.specs.declared.coin.Coin.{Coin}
 

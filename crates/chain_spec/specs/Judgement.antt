@@ -34,17 +34,17 @@ facts_or_none spend = unwrap_or (facts_of spend) (record { cost = 0; conditions 
 abbrev pub coin_of : Hash32 → Condition → Coin
 coin_of parent (CreateCoin hash amount) = record { parent = parent; puzzle_hash = hash; amount = amount }
 
-abbrev pub created_by : Spend → List Coin
-created_by spend = map (coin_of (coin_id spend.coin)) (facts_or_none spend).conditions
+abbrev pub coins_made_by : Spend → List Coin
+coins_made_by spend = map (coin_of (coin_id spend.coin)) (facts_or_none spend).conditions
 
-abbrev pub created : List Spend → List Coin
-created spends = flat_map created_by spends
+abbrev pub created_coins : List Spend → List Coin
+created_coins spends = flat_map coins_made_by spends
 
 abbrev pub spent_amounts : List Spend → ℕ
 spent_amounts spends = sum_by (λ spend. spend.coin.amount) spends
 
 abbrev pub created_amounts : List Spend → ℕ
-created_amounts spends = sum_by (λ coin. coin.amount) (created spends)
+created_amounts spends = sum_by (λ coin. coin.amount) (created_coins spends)
 
 -- 12,000 for each byte of the generator, and the runs and their conditions
 abbrev pub cost_of : List Spend → ℕ
@@ -66,7 +66,7 @@ abbrev pub spent_ids : List Spend → List Hash32
 spent_ids spends = map (λ spend. coin_id spend.coin) spends
 
 abbrev pub created_ids : List Spend → List Hash32
-created_ids spends = map coin_id (created spends)
+created_ids spends = map coin_id (created_coins spends)
 
 -- Rule 2: a coin is spent twice; at the second spend of it.
 abbrev pub spent_twice : List Spend → Option ℕ

@@ -1,3 +1,4 @@
+pub mod LimitsView
 pub mod Chain
 pub mod Runs
 pub mod Conditions

@@ -1,7 +1,5 @@
-ghost use Rattle.std.specs.Prelude.{◌≡◌, ◌↔◌, IsTrue, IfOk};
+ghost use Rattle.std.specs.Prelude.{◌≡◌};
 
-use crate::OutOfMemory;
-use std::alloc::Global;
 use std::marker::Model;
 
 /// A list of bytes.
@@ -31,29 +29,5 @@ impl Bytes {
         ensures { result.now ≡ self.now }
     {
         self.items.as_slice()
-    }
-
-    /// Equal bytes in memory of their own.
-    pub fn copy(&self, alloc: Global) -> Result<Bytes, OutOfMemory>
-        ensures { IfOk result (λ b. b ≡ self.now) }
-    {
-        Ok(Bytes {
-            items: Vec::from_slice(alloc, self.items.as_slice())?,
-        })
-    }
-}
-
-#[cfg(test)]
-mod tests {
-    use super::*;
-    use std::test::Fail;
-
-    #[test]
-    fn a_copy_has_equal_bytes(rt: HostRuntime) -> Result<(), Fail> {
-        let bytes = Bytes::from_vec(vec![in rt.alloc(); 7, 0, 255]?);
-        let copied = bytes.copy(rt.alloc())?;
-        assert_eq!(rt; copied.as_slice(), [7, 0, 255].as_slice());
-        assert_eq!(rt; bytes.as_slice(), [7, 0, 255].as_slice());
-        Ok(())
     }
 }

@@ -7,21 +7,21 @@ use Rattle.coin_facts.specs.declared.hash32.Hash32.{Hash32}
 use Rattle.coin_facts.specs.CoinId.{coin_id}
 use Rattle.block_form.specs.declared.spend.Spend.{Spend}
 use Rattle.chain_spec.specs.Chain.{Chain, is_in_chain}
-use Rattle.chain_spec.specs.Judgement.{Fine, unless_broken, judgement, spent_twice, spend_by_spend, unknown_coin, is_among, created_by, created, created_ids, created_amounts, spent_ids, cost_of, fee_of}
+use Rattle.chain_spec.specs.Judgement.{Fine, unless_broken, judgement, spent_twice, spend_by_spend, unknown_coin, is_among, coins_made_by, created_coins, created_ids, created_amounts, spent_ids, cost_of, fee_of}
 use Rattle.pool_core.specs.declared.payment.Payment.{Payment}
 use Rattle.pool_core.specs.SpendPayments.{payment_of, ArePayments}
-use Rattle.pool_core.specs.PaymentSums.{paid, paid_ids, paid_amounts}
+use Rattle.pool_core.specs.PaymentSums.{coins_of_payments, paid_ids, paid_amounts}
 use Rattle.pool_core.specs.Costs.{HasCost}
 
-paid-created : (spends : List Spend) → paid (map payment_of spends) ≡ created spends
-paid-created [] = refl
-paid-created (spend ∷ spends) = ap (λ coins. created_by spend ++ coins) (paid-created spends)
+coins_of_payments-created_coins : (spends : List Spend) → coins_of_payments (map payment_of spends) ≡ created_coins spends
+coins_of_payments-created_coins [] = refl
+coins_of_payments-created_coins (spend ∷ spends) = ap (λ coins. coins_made_by spend ++ coins) (coins_of_payments-created_coins spends)
 
 pub paid_ids-created : (spends : List Spend) (payments : List Payment) → ArePayments spends payments → paid_ids payments ≡ created_ids spends
-paid_ids-created spends payments are = ap paid_ids are.each ∙ ap (map coin_id) (paid-created spends)
+paid_ids-created spends payments are = ap paid_ids are.each ∙ ap (map coin_id) (coins_of_payments-created_coins spends)
 
 pub paid_amounts-created : (spends : List Spend) (payments : List Payment) → ArePayments spends payments → paid_amounts payments ≡ created_amounts spends
-paid_amounts-created spends payments are = ap paid_amounts are.each ∙ ap (sum_by (λ coin. coin.amount)) (paid-created spends)
+paid_amounts-created spends payments are = ap paid_amounts are.each ∙ ap (sum_by (λ coin. coin.amount)) (coins_of_payments-created_coins spends)
 
 prefix_len-map : {A B : Type 0} (p : B → Bool) (f : A → B) (xs : List A) → prefix_len p (map f xs) ≡ prefix_len (λ x. p (f x)) xs
 prefix_len-map p f [] = refl

@@ -15,7 +15,7 @@ use Rattle.block_form.specs.declared.spend.Spend.{Spend}
 use Rattle.block_form.specs.Spelled.{spelled_tree}
 use Rattle.chain_spec.specs.Runs.{run_of}
 use Rattle.chain_spec.specs.Conditions.{Condition, CreateCoin, condition_of, conditions_of, cost_of_condition, cost_of_conditions}
-use Rattle.chain_spec.specs.Judgement.{Facts, coin_of, facts_of_run, facts_of, facts_or_none, created_by}
+use Rattle.chain_spec.specs.Judgement.{Facts, coin_of, facts_of_run, facts_of, facts_or_none, coins_made_by}
 use Rattle.pool_spec.specs.Payment.{is_triple, are_triples, pays}
 use Rattle.pool_core.specs.declared.payment.Payment.{Payment}
 use Rattle.pool_core.specs.Payments.{paid_coin, paid_coins, quoted_coins}
@@ -118,7 +118,7 @@ payment_at-is spend =
       | paying p ↦
           let with_coins : List Coin → Payment = λ coins. record { puzzle_hash = record { bytes = tree_hash (spelled_tree spend.puzzle) }; created = coins } in
           let facts = facts_or_none-is spend p.conditions p.facts in
-          let created : map (coin_of (coin_id spend.coin)) p.conditions ≡ created_by spend = ap (λ f. map (coin_of (coin_id spend.coin)) f.conditions) (sym facts) in
+          let created : map (coin_of (coin_id spend.coin)) p.conditions ≡ coins_made_by spend = ap (λ f. map (coin_of (coin_id spend.coin)) f.conditions) (sym facts) in
           subst (IsPayment spend) (sym (ap (option_map with_coins) p.coins)) (p.pays, ap with_coins created)
       | other p ↦ subst (IsPayment spend) (sym (ap (option_map (λ coins. record { puzzle_hash = record { bytes = tree_hash (spelled_tree spend.puzzle) }; created = coins })) p.coins)) p.pays
     ]
@@ -142,12 +142,12 @@ length-map_is f [] = refl
 length-map_is f (x ∷ xs) = ap suc (length-map_is f xs)
 
 -- what the run of a paying puzzle and its conditions cost
-pub paying_cost : (spend : Spend) → is_paying spend ≡ true → (facts_or_none spend).cost ≡ 20 + 1_800_000 * length (created_by spend)
+pub paying_cost : (spend : Spend) → is_paying spend ≡ true → (facts_or_none spend).cost ≡ 20 + 1_800_000 * length (coins_made_by spend)
 paying_cost spend pays =
     elim (is_puzzle (coin_id spend.coin) (spelled_tree spend.puzzle) (spelled_tree spend.solution)) [
       | paying p ↦
           let facts = facts_or_none-is spend p.conditions p.facts in
-          let long : length (created_by spend) ≡ length p.conditions = ap (λ f. length (map (coin_of (coin_id spend.coin)) f.conditions)) facts ∙ length-map_is (coin_of (coin_id spend.coin)) p.conditions in
+          let long : length (coins_made_by spend) ≡ length p.conditions = ap (λ f. length (map (coin_of (coin_id spend.coin)) f.conditions)) facts ∙ length-map_is (coin_of (coin_id spend.coin)) p.conditions in
           ap (λ f. f.cost) facts ∙ ap (λ n. 20 + n) (cost_of_conditions-is p.conditions ∙ ap (λ n. 1_800_000 * n) (sym long))
       | other p ↦ absurd (false≢true (sym p.pays ∙ pays))
     ]

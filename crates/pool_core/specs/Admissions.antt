@@ -1,4 +1,4 @@
--- How an error stands for the answer to an admission.
+-- How an error stands for the answer to an admission. Source: this project's own.
 use Rattle.std.specs.Prelude.{◌≡◌}
 use Rattle.pool_spec.specs.Admission as answer
 use Rattle.pool_core.specs.declared.fault.AdmitFault.{AdmitFault}

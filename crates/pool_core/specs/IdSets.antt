@@ -1,4 +1,4 @@
--- A set has just the ids of a list.
+-- A set has just the ids of a list. Source: this project's own.
 use Rattle.std.specs.Prelude.{◌≡◌, List}
 use Rattle.std.specs.HashSet.{HashSet, contains}
 use Rattle.std.specs.declared.hash.FoldHasher.{FoldHasher}

@@ -4,7 +4,7 @@ use Rattle.std.specs.List.{AllByRecursion}
 use Rattle.block_form.specs.declared.bundle.Bundle.{Bundle}
 use Rattle.chain_spec.specs.Chain.{Chain}
 use Rattle.chain_spec.specs.Judgement.{Fine, judgement}
-use Rattle.pool_spec.specs.declared.limits.Limits.{Limits}
+use Rattle.chain_spec.specs.declared.limits.Limits.{Limits}
 use Rattle.pool_core.specs.ItemView.{ItemView}
 
 abbrev pub IsJudged : Chain → Limits → ItemView → Type 0

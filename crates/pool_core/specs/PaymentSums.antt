@@ -1,4 +1,4 @@
--- What payments make together.
+-- What payments make together. Source: this project's own.
 use Rattle.std.specs.Prelude.{ℕ, ◌&&◌, Bool, not, List, [], map, nat_le, is_none}
 use Rattle.std.specs.List.{sum_by, flat_map, list_all}
 use Rattle.coin_facts.specs.declared.hash32.Hash32.{Hash32}
@@ -9,14 +9,14 @@ use Rattle.chain_spec.specs.Chain.{Chain, is_in_chain}
 use Rattle.chain_spec.specs.Judgement.{repeat_behind, spent_amounts}
 use Rattle.pool_core.specs.declared.payment.Payment.{Payment}
 
-abbrev pub paid : List Payment → List Coin
-paid payments = flat_map (λ payment. payment.created) payments
+abbrev pub coins_of_payments : List Payment → List Coin
+coins_of_payments payments = flat_map (λ payment. payment.created) payments
 
 abbrev pub paid_amounts : List Payment → ℕ
-paid_amounts payments = sum_by (λ coin. coin.amount) (paid payments)
+paid_amounts payments = sum_by (λ coin. coin.amount) (coins_of_payments payments)
 
 abbrev pub paid_ids : List Payment → List Hash32
-paid_ids payments = map coin_id (paid payments)
+paid_ids payments = map coin_id (coins_of_payments payments)
 
 -- They make new coins, each once, that are worth at most what is spent.
 abbrev pub pays_out : Chain → List Spend → List Payment → Bool

@@ -1,4 +1,4 @@
--- What the pool reads of a spend.
+-- What the pool reads of a spend. Source: this project's own.
 use Rattle.std.specs.Prelude.{◌≡◌, Bool, true, false, List, map, Option, option_map, MatchOption}
 use Rattle.std.specs.List.{list_all}
 use Rattle.clvm_spec.specs.Tree.{Tree}
@@ -7,7 +7,7 @@ use Rattle.coin_facts.specs.declared.coin.Coin.{Coin}
 use Rattle.coin_facts.specs.CoinId.{coin_id}
 use Rattle.block_form.specs.declared.spend.Spend.{Spend}
 use Rattle.block_form.specs.Spelled.{spelled_tree}
-use Rattle.chain_spec.specs.Judgement.{created_by}
+use Rattle.chain_spec.specs.Judgement.{coins_made_by}
 use Rattle.pool_spec.specs.Payment.{pays}
 use Rattle.pool_core.specs.declared.payment.Payment.{Payment}
 use Rattle.pool_core.specs.Payments.{quoted_coins}
@@ -21,7 +21,7 @@ is_paying spend = pays (spelled_tree spend.puzzle)
 
 -- the payment of a spend whose puzzle pays
 abbrev pub payment_of : Spend → Payment
-payment_of spend = record { puzzle_hash = record { bytes = tree_hash (spelled_tree spend.puzzle) }; created = created_by spend }
+payment_of spend = record { puzzle_hash = record { bytes = tree_hash (spelled_tree spend.puzzle) }; created = coins_made_by spend }
 
 -- what is found of a spend: its payment, where it pays
 abbrev pub IsPayment : Spend → Option Payment → Type 0

@@ -1,4 +1,4 @@
--- A node that is a proper list of three nodes.
+-- A node that is a proper list of three nodes. Source: this project's own.
 use Rattle.std.specs.Prelude.{◌≡◌, ℕ, List, [], ◌∷◌}
 use Rattle.clvm_spec.specs.Tree.{Tree, list_tree}
 use Rattle.clvm_tree.specs.Nodes.{tree_at, IsKnown}

@@ -1,4 +1,4 @@
--- How a fault stands for a verdict.
+-- How a fault stands for a verdict. Source: this project's own.
 use Rattle.std.specs.Prelude.{◌≡◌}
 use Rattle.chain_spec.specs.Judgement.{Verdict, Broken}
 use Rattle.pool_core.specs.declared.fault.AdmitFault.{AdmitFault}

@@ -7,7 +7,7 @@ use Rattle.block_form.specs.declared.bundle.Bundle.{Bundle}
 use Rattle.block_form.specs.BundleTree.{bundle_id}
 use Rattle.chain_spec.specs.Chain.{Chain}
 use Rattle.chain_spec.specs.Judgement.{Verdict, Fine, Broken, cost_of, judgement}
-use Rattle.pool_spec.specs.declared.limits.Limits.{Limits}
+use Rattle.chain_spec.specs.declared.limits.Limits.{Limits}
 
 -- a chain, its limits, and the bundles in the order in which they were admitted
 pub record PoolState : Type 0 where
@@ -21,13 +21,13 @@ pub data Admission : Type 0 where
   Refused : (rule place : ℕ) → Admission
 
 -- what the bundles of the pool cost together
-abbrev pub pool_cost : List Bundle → ℕ
-pool_cost bundles = sum_by (λ bundle. cost_of bundle.spends) bundles
+abbrev pub cost_of_bundles : List Bundle → ℕ
+cost_of_bundles bundles = sum_by (λ bundle. cost_of bundle.spends) bundles
 
 -- Rule 34: with this bundle the pool would cost more than it may.
 abbrev pub within_capacity : PoolState → Bundle → ℕ → ℕ → Admission
 within_capacity state bundle cost fee =
-    if nat_lt state.limits.pool_cost (pool_cost state.bundles + cost) then Refused 34 0 else Admitted (bundle_id bundle) fee cost []
+    if nat_lt state.limits.pool_cost (cost_of_bundles state.bundles + cost) then Refused 34 0 else Admitted (bundle_id bundle) fee cost []
 
 abbrev pub admission_by : PoolState → Bundle → Verdict → Admission
 admission_by state bundle (Fine cost fee) = within_capacity state bundle cost fee

@@ -1,4 +1,3 @@
-pub mod LimitsView
 pub mod Payment
 pub mod Admission
 pub mod Step

@@ -9,7 +9,7 @@ use Rattle.coin_facts.specs.declared.coin.Coin.{Coin}
 use Rattle.coin_facts.specs.CoinId.{coin_id}
 use Rattle.block_form.specs.declared.bundle.Bundle.{Bundle}
 use Rattle.chain_spec.specs.Chain.{Chain, is_in_chain}
-use Rattle.pool_spec.specs.declared.limits.Limits.{Limits}
+use Rattle.chain_spec.specs.declared.limits.Limits.{Limits}
 use Rattle.pool_spec.specs.Payment.{is_payment}
 use Rattle.pool_spec.specs.Step.{Admit, LookUp}
 use Rattle.pool_spec.specs.History.{Session}
