@@ -1,0 +1,7 @@
+mod Turns
+mod LineLaws
+mod BundleLaws
+mod CoinTurns
+mod SessionLaws
+pub mod Histories
+pub mod Endings
