@@ -2,6 +2,7 @@ pub mod Nodes
 pub mod Sights
 pub mod Arena
 pub mod Marks
+pub mod ByteHashes
 pub mod Pieces
 pub mod Reads
 pub mod Numbers

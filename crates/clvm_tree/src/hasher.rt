@@ -6,6 +6,7 @@ ghost use Rattle.clvm_tree.specs.Arena.{trees_of, IsArena};
 ghost use Rattle.clvm_tree.specs.Marks.{IsMarked, HasEarlierParts, MarksParts, AllEarlier, IsClosedFrom, AreHashes};
 
 use crate::arena::{Entry, Trees};
+use crate::byte_hashes::ByteHashes;
 use crate::{Node, OutOfMemory};
 use sha2::{Digest, Sha256};
 use std::alloc::Global;
@@ -75,7 +76,13 @@ fn reached(alloc: Global, entries: &[Entry], node: usize) -> Result<Vec<bool>, O
 }
 
 // The hash of a node whose parts have theirs.
-fn node_hash(entries: &[Entry], bytes: &[u8], marks: &[bool], hashes: &[Hash]) -> Hash
+fn node_hash(
+    entries: &[Entry],
+    bytes: &[u8],
+    marks: &[bool],
+    hashes: &[Hash],
+    of_bytes: &mut ByteHashes,
+) -> Hash
     requires arena { IsArena entries.now bytes.now }
     requires known { length hashes.now < length entries.now + 2 }
     requires within { length hashes.now < length marks.now }
@@ -88,7 +95,7 @@ fn node_hash(entries: &[Entry], bytes: &[u8], marks: &[bool], hashes: &[Hash]) -
         0 => atom_hash(&[]),
         1 => atom_hash(&[1]),
         place => match entries[place - 2] {
-            Entry::Bytes { start, end } => atom_hash(&bytes[start as usize..end as usize]),
+            Entry::Bytes { start, end } => of_bytes.atom_hash(&bytes[start as usize..end as usize]),
             Entry::Two(first, rest) => pair_hash(
                 &hashes[first.0 as usize],
                 &hashes[rest.0 as usize],
@@ -111,9 +118,10 @@ fn hashes(
     ensures hashes { IfOk result (λ hashes. AreHashes (trees_of bytes.now entries.now) marks.now hashes.items) }
 {
     let mut hashes = Vec::with_capacity(alloc, marks.len())?;
+    let mut of_bytes = ByteHashes::new();
     for marked in marks {
         let hash = if *marked {
-            node_hash(entries, bytes, marks, &hashes)
+            node_hash(entries, bytes, marks, &hashes, &mut of_bytes)
         } else {
             [0; 32]
         };
@@ -123,7 +131,7 @@ fn hashes(
 }
 
 impl Trees {
-    /// The tree hash of a node. Each node that it reaches is hashed once.
+    /// The tree hash of a node. Each node that it reaches is hashed once, and so is each atom of one byte.
     pub fn hash(&self, alloc: Global, node: Node) -> Result<Hash, OutOfMemory>
         requires { IsKnown self.now node.0 }
         ensures { IfOk result (λ hash. hash ≡ tree_hash (tree_at self.now node.0)) }

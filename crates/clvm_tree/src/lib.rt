@@ -6,6 +6,7 @@ ghost use Rattle.clvm_tree.specs.declared.ReadFault.TheVariants as read_fault;
 ghost use Rattle.clvm_tree.specs.declared.WriteFault.TheVariants as write_fault;
 
 mod arena;
+mod byte_hashes;
 mod hasher;
 mod numbers;
 mod operators;
