@@ -1,0 +1,12 @@
+use Rattle.std.proofs.Common.{◌≡◌, ◌≤◌, length}
+use Rattle.clvm_input.specs.Texts.{without_end_blanks}
+use Rattle.clvm_input.proofs.text.without_end_blanks.Given as goal
+
+abbrev pub invariant-blanks : goal.invariant-blanks
+invariant-blanks l = record {
+  same : without_end_blanks l.rest ≡ without_end_blanks l.fn.text;
+  short : length l.rest ≤ length l.fn.text;
+}
+
+abbrev pub decreases-blanks : goal.decreases-blanks
+decreases-blanks l = length l.rest

@@ -1,0 +1,4 @@
+pub mod Texts
+pub mod Inputs
+pub mod Answers
+pub mod Decoded

@@ -1,0 +1,44 @@
+//! CLVM input: the hexadecimal of exactly one spelled tree.
+#![tactic(auto)]
+
+ghost use Rattle.std.specs.Prelude.{◌≡◌};
+ghost use Rattle.clvm_input.specs.declared.InputFault.TheVariants.{OutOfMemory};
+
+mod input;
+#[cfg(test)]
+mod tests;
+mod text;
+
+pub use clvm_tree::OutOfMemory;
+pub use input::read_input;
+
+/// What is wrong with an input, at the first place where it is: it isn't hexadecimal, or its bytes aren't one spelled
+/// tree. Places count the bytes that the digits stand for.
+#[derive(Clone, Copy, Debug, PartialEq, Eq)]
+pub enum Fault {
+    /// A digit is none, or their number is odd.
+    Hex,
+    /// The bytes end before the tree does.
+    Cut,
+    /// A shorter prefix, or none, could spell the atom at this place.
+    LongSpelling(u32),
+    /// The byte at this place begins no tree.
+    BadPrefix(u32),
+    /// More bytes follow the tree, from this place on.
+    Left(u32),
+}
+
+/// Why an input isn't read.
+#[derive(Clone, Copy, Debug, PartialEq, Eq)]
+pub enum InputFault {
+    Faulty(Fault),
+    OutOfMemory,
+}
+
+impl From<OutOfMemory> for InputFault {
+    ghost from_gives = { λ _ fault. fault ≡ OutOfMemory };
+
+    fn from(_: OutOfMemory) -> InputFault {
+        InputFault::OutOfMemory
+    }
+}

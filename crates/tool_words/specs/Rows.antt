@@ -1,0 +1,141 @@
+-- What the words behind a command's name say. This project's own.
+use Rattle.std.specs.Prelude.{ℕ, Bool, true, false, not, ◌==◌, ◌&&◌, List, [], ◌∷◌, map, length, Option, Some, None, option_map, option_and_then, if◌then◌else◌, nat_le, bytes_eq}
+use Rattle.std.specs.List.{list_any, list_all, before_first, after_first}
+
+abbrev pub Text : Type 0
+Text = List ℕ
+
+-- What stands behind a command's name: its flags and its numbers, each by its name without hyphens, and the least and the
+-- most of other words.
+pub record Row : Type 0 where
+  pub flags : List Text
+  pub numbers : List Text
+  pub least : ℕ
+  pub most : ℕ
+
+-- what a word is that isn't the value of the option before it
+pub data Sort : Type 0 where
+  Flag : Text → Sort
+  -- the name of a number, and its value behind an equals sign
+  Number : Text → Text → Sort
+  -- the name of a number, whose value is the next word
+  Opening : Text → Sort
+  Other : Text → Sort
+  -- it begins with a hyphen, and is no option of the row
+  Wrong : Sort
+
+-- what stands behind a hyphen
+abbrev pub behind_hyphen : Text → Option Text
+behind_hyphen [] = None
+behind_hyphen (byte ∷ bytes) = if byte == 45 then Some bytes else None
+
+abbrev pub is_equals_sign : ℕ → Bool
+is_equals_sign byte = byte == 61
+
+abbrev pub name_in : Text → Text
+name_in text = before_first is_equals_sign text
+
+abbrev pub value_in : Text → Option Text
+value_in text = if list_any is_equals_sign text then Some (after_first is_equals_sign text) else None
+
+abbrev pub is_among : List Text → Text → Bool
+is_among names name = list_any (λ other. bytes_eq other name) names
+
+abbrev pub option_of : Row → Text → Option Text → Sort
+option_of row name None = if is_among row.flags name then Flag name else (if is_among row.numbers name then Opening name else Wrong)
+option_of row name (Some value) = if is_among row.numbers name then Number name value else Wrong
+
+-- a word by what stands behind its first two hyphens
+abbrev pub hyphened : Row → Option Text → Sort
+hyphened row None = Wrong
+hyphened row (Some text) = option_of row (name_in text) (value_in text)
+
+-- a word by what stands behind its first hyphen
+abbrev pub sorted : Row → Text → Option Text → Sort
+sorted row word None = Other word
+sorted row word (Some rest) = hyphened row (behind_hyphen rest)
+
+abbrev pub sort_of : Row → Text → Sort
+sort_of row word = sorted row word (behind_hyphen word)
+
+-- what the words say one after the other
+pub data Item : Type 0 where
+  IsFlag : Text → Item
+  IsNumber : Text → Text → Item
+  IsOther : Text → Item
+
+-- the number that waits for its value behind a word
+abbrev pub waits : Sort → Option Text
+waits (Opening name) = Some name
+waits _ = None
+
+-- what the words say, by the first of them and what those behind it say
+abbrev pub joined : Sort → Option (List Item) → Option (List Item)
+joined (Flag name) items = option_map (λ later. IsFlag name ∷ later) items
+joined (Number name value) items = option_map (λ later. IsNumber name value ∷ later) items
+joined (Opening name) items = items
+joined (Other word) items = option_map (λ later. IsOther word ∷ later) items
+joined Wrong items = None
+
+-- what the words say, where a number may wait for its value
+abbrev pub items_from : Row → Option Text → List Text → Option (List Item)
+items_from row None [] = Some []
+items_from row None (word ∷ words) = joined (sort_of row word) (items_from row (waits (sort_of row word)) words)
+items_from row (Some name) [] = None
+items_from row (Some name) (value ∷ words) = option_map (λ later. IsNumber name value ∷ later) (items_from row None words)
+
+abbrev pub flags_in : List Item → List Text
+flags_in [] = []
+flags_in (IsFlag name ∷ items) = name ∷ flags_in items
+flags_in (IsNumber name value ∷ items) = flags_in items
+flags_in (IsOther word ∷ items) = flags_in items
+
+abbrev pub numbers_in : List Item → List (Text × Text)
+numbers_in [] = []
+numbers_in (IsFlag name ∷ items) = numbers_in items
+numbers_in (IsNumber name value ∷ items) = (name, value) ∷ numbers_in items
+numbers_in (IsOther word ∷ items) = numbers_in items
+
+abbrev pub others_in : List Item → List Text
+others_in [] = []
+others_in (IsFlag name ∷ items) = others_in items
+others_in (IsNumber name value ∷ items) = others_in items
+others_in (IsOther word ∷ items) = word ∷ others_in items
+
+-- whether each name stands there at most once
+abbrev pub are_distinct : List Text → Bool
+are_distinct [] = true
+are_distinct (name ∷ names) = not (is_among names name) && are_distinct names
+
+abbrev pub names_of : List (Text × Text) → List Text
+names_of = map (λ number. number.0)
+
+abbrev pub is_digit : ℕ → Bool
+is_digit byte = nat_le 48 byte && nat_le byte 57
+
+-- whether a text is 1 to 20 ASCII digits
+abbrev pub is_digits : Text → Bool
+is_digits text = nat_le 1 (length text) && (nat_le (length text) 20 && list_all is_digit text)
+
+-- What the words of a row say.
+pub record Said : Type 0 where
+  pub flags : List Text
+  -- the names of the numbers, with their digits
+  pub numbers : List (Text × Text)
+  pub others : List Text
+
+abbrev pub said_by : List Item → Said
+said_by items = record { flags = flags_in items; numbers = numbers_in items; others = others_in items }
+
+-- each option is said once, each number has 1 to 20 digits, and there are as many other words as the row has
+abbrev pub is_whole : Row → Said → Bool
+is_whole row said = are_distinct said.flags
+    && (are_distinct (names_of said.numbers)
+    && (list_all (λ number. is_digits number.1) said.numbers
+    && (nat_le row.least (length said.others) && nat_le (length said.others) row.most)))
+
+abbrev pub whole : Row → Said → Option Said
+whole row said = if is_whole row said then Some said else None
+
+abbrev pub said_in : Row → List Text → Option Said
+said_in row words = option_and_then (λ items. whole row (said_by items)) (items_from row None words)

@@ -1,0 +1,11 @@
+//! The program's words: which command they are, and what they say to it.
+#![tactic(auto)]
+
+pub mod said;
+pub mod words;
+
+pub use said::{Command, WordsFault};
+pub use words::command;
+
+#[cfg(test)]
+mod tests;
