@@ -1,15 +1,17 @@
--- What a run ends with decides its status.
-use Rattle.std.proofs.Common.{◌≡◌, ◌∙◌, ℕ, ◌<◌, ◌≤◌, inl, inr, List, ◌++◌, length, Option, Some, None, String, IsSome, Bool, true, false, nat_le, if◌then◌else◌, rules, refl, ap, sym, subst, arith, length-append, append-nil, leb-true}
-use Rattle.std.specs.declared.alloc.Global.{Global}
+-- What a run ends with, and what decides its status.
+use Rattle.std.proofs.Common.{◌≡◌, ◌∙◌, ℕ, ◌<◌, ◌≤◌, ◌⊎◌, inl, inr, List, ◌++◌, length, Option, Some, None, string_bytes, rules, refl, ap, subst, arith, length-append, append-nil}
 use Rattle.std.specs.Io.KnownBytes.{Consumes, IsAtEnd}
-use Rattle.session_spec.specs.Steps.{◌>>=◌, all_of}
-use Rattle.session_spec.specs.Lines.{lines, object_of}
-use Rattle.session_spec.specs.FirstForm.{session_of, session_of_lines}
 use Rattle.ports_io.specs.Outside.{Rose}
-use Rattle.chia_sim.specs.Outside.{Reading, Writing, IsInput, IsTooLong, WritesLine, most_bytes}
-use Rattle.chia_sim.specs.Headline.{IsOutput, Ends, Played, Unbuilt, NoCommand, ReadFault, WriteFault, NoMemory, TooLong}
-use Rattle.chia_sim.specs.Causes.{IsComplete, NamesUnbuilt, NamesTooLong}
-use Rattle.chia_sim.specs.Stops.{HasReason, words_of, status_of, Finishes}
+use Rattle.session_spec.specs.Texts.{line_feed}
+use Rattle.tool_words.specs.declared.said.Command.{Command}
+use Rattle.tool_words.specs.declared.said.Command.TheVariants as command
+use Rattle.chia_sim.specs.Outside.{Reading, Writing, IsInput, IsTooLong, Writes, WritesLine, FailsToWrite, most_bytes}
+use Rattle.chia_sim.specs.Outputs.{HasOutput, HasFault, IsInForm}
+use Rattle.chia_sim.specs.Headline.{IsOutput, IsFault, Ends, Finished, Refused, NoCommand, ReadFault, WriteFault, NoMemory, TooLong}
+use Rattle.chia_sim.specs.Causes.{IsRun, IsComplete, NamesFault, NamesTooLong, HasCauses}
+use Rattle.chia_sim.specs.Stops.{HasCause, IsAnswer, IsAnswerTo, Finishes, words_of, status_of}
+use Rattle.chia_sim.specs.declared.answer.Answer.{Answer}
+use Rattle.chia_sim.specs.declared.answer.Answer.TheVariants as answer
 use Rattle.chia_sim.specs.declared.stop.Stop.{Stop}
 use Rattle.chia_sim.specs.declared.stop.Stop.TheVariants as because
 
@@ -31,99 +33,127 @@ taken-le (Some xs) (Some ys) input taken told c =
 input-is : (reading : Reading) (input read : List ℕ) → reading.left ≡ Some input → IsInput reading read → read ≡ input
 input-is reading input read told is = taken_to_end reading.left reading.left_after input read told is.taken is.ended
 
-none-some : {A : Type 0} (found : Option A) → found ≡ None → IsSome found → ⊥
-none-some found none some = absurd (search rules)
-
 not-long : (reading : Reading) (input read : List ℕ) → reading.left ≡ Some input → IsInput reading read → most_bytes < length input → ⊥
 not-long reading input read told is long = omega (arith, long, is.within, ap length (input-is reading input read told is))
 
-if_some : {A : Type 0} (b : Bool) (found : Option A) → IsSome (if b then found else None) → b ≡ true
-if_some true found some = refl
-if_some false found some = absurd (search rules)
+long-is : (reading : Reading) (input : List ℕ) → reading.left ≡ Some input → IsTooLong reading → most_bytes < length input
+long-is reading input told long = omega (arith, long.1, taken-le reading.left reading.left_after input long.0 told long.2)
+
+same-command : (said : Option Command) (it other : Command) → said ≡ Some it → said ≡ Some other → other ≡ it
+same-command said it other is be = cc
+
+-- an input of the form has no fault
+form-or-fault : (it : Command) (input words : List ℕ) → IsInForm it input → HasFault it input words → ⊥
+form-or-fault command.Session input words form fault = let none = fault.0 in absurd (search rules)
+form-or-fault command.Hash input words form fault = absurd (search rules)
+
+-- an input with an output has no fault
+output-or-fault : (it : Command) (input output words : List ℕ) → HasOutput it input output → HasFault it input words → ⊥
+output-or-fault command.Session input output words out fault = let one = out.of_input in let none = fault.0 in absurd (search rules)
+output-or-fault command.Hash input output words out fault = absurd (search rules)
+
+-- the same of what was read
+fault-of : (said : Option Command) (reading : Reading) (writing : Writing) (it other : Command) (input words : List ℕ)
+    → IsRun said it reading writing input → said ≡ Some other → IsFault other reading words → HasFault it input words
+fault-of said reading writing it other input words run is fault =
+    subst (λ c. HasFault c input words) (same-command said it other run.words_are is)
+    (subst (λ i. HasFault other i words) (input-is reading input fault.0 run.tells fault.1) fault.2)
+
+output-of : (said : Option Command) (reading : Reading) (writing : Writing) (it other : Command) (input output : List ℕ)
+    → IsRun said it reading writing input → said ≡ Some other → IsOutput other reading output → HasOutput it input output
+output-of said reading writing it other input output run is out =
+    subst (λ c. HasOutput c input output) (same-command said it other run.words_are is)
+    (subst (λ i. HasOutput other i output) (input-is reading input out.0 run.tells out.1) out.2)
 
 some-none : {A : Type 0} (found : Option A) {x : A} → found ≡ Some x → found ≡ None → ⊥
 some-none found is none = absurd (search rules)
 
--- a session isn't too long
-session-short : (input : List ℕ) → IsSome (session_of input) → length input ≤ most_bytes
-unfolding session_of
-session-short input some =
-    omega (arith, leb-true (length input) 65_536 (if_some (nat_le (length input) 65_536) (all_of object_of (lines input) >>= session_of_lines) some))
+ends-complete : (said : Option Command) (reading : Reading) (writing : Writing) (status : ℕ) → Ends said reading writing status → IsComplete said reading writing status
+ends-complete said reading writing status (Finished other output so out writes is) it input run within form = inl is
+ends-complete said reading writing status (Refused other words so fault line is) it input run within form =
+    absurd (form-or-fault it input words form (fault-of said reading writing it other input words run so fault))
+ends-complete said reading writing status (NoCommand none same line is) it input run within form = absurd (some-none said run.words_are none)
+ends-complete said reading writing status (ReadFault other so fails line is) it input run within form = absurd (run.reads fails.rose)
+ends-complete said reading writing status (WriteFault other output so out fails is) it input run within form = absurd (run.writes fails.rose)
+ends-complete said reading writing status (NoMemory line is) it input run within form = inr is
+ends-complete said reading writing status (TooLong other so long line is) it input run within form =
+    absurd (omega (arith, within, long-is reading input run.tells long))
 
-finishes-ends : (reading : Reading) (writing : Writing) (output : List ℕ) (status : ℕ)
-    → IsOutput reading output → Finishes writing output status → Ends reading writing status
-finishes-ends reading writing output status out (inl done) = Played output out done.0 done.1
-finishes-ends reading writing output status out (inr failed) = WriteFault output out failed.0 failed.1
+ends-fault : (said : Option Command) (reading : Reading) (writing : Writing) (status : ℕ) → Ends said reading writing status → NamesFault said reading writing status
+ends-fault said reading writing status (Finished other output so out writes is) it input words run within fault =
+    absurd (output-or-fault it input output words (output-of said reading writing it other input output run so out) fault)
+ends-fault said reading writing status (Refused other line_words so has line is) it input words run within fault = inl is
+ends-fault said reading writing status (NoCommand none same line is) it input words run within fault = absurd (some-none said run.words_are none)
+ends-fault said reading writing status (ReadFault other so fails line is) it input words run within fault = absurd (run.reads fails.rose)
+ends-fault said reading writing status (WriteFault other output so out fails is) it input words run within fault = absurd (run.writes fails.rose)
+ends-fault said reading writing status (NoMemory line is) it input words run within fault = inr is
+ends-fault said reading writing status (TooLong other so long line is) it input words run within fault =
+    absurd (omega (arith, within, long-is reading input run.tells long))
 
-pub finished-ends : (reading : Reading) (writing : Writing) (output given : List ℕ) (status : ℕ) → given ≡ output
-    → IsOutput reading output → Finishes writing given status → Ends reading writing status
-finished-ends reading writing output given status same out finishes =
-    finishes-ends reading writing output status out (subst (λ o. Finishes writing o status) same finishes)
+ends-too_long : (said : Option Command) (reading : Reading) (writing : Writing) (status : ℕ) → Ends said reading writing status → NamesTooLong said reading writing status
+ends-too_long said reading writing status (Finished other output so out writes is) it input run long = absurd (not-long reading input out.0 run.tells out.1 long)
+ends-too_long said reading writing status (Refused other words so fault line is) it input run long = absurd (not-long reading input fault.0 run.tells fault.1 long)
+ends-too_long said reading writing status (NoCommand none same line is) it input run long = absurd (some-none said run.words_are none)
+ends-too_long said reading writing status (ReadFault other so fails line is) it input run long = absurd (run.reads fails.rose)
+ends-too_long said reading writing status (WriteFault other output so out fails is) it input run long = absurd (run.writes fails.rose)
+ends-too_long said reading writing status (NoMemory line is) it input run long = inr is
+ends-too_long said reading writing status (TooLong other so has line is) it input run long = inl is
 
-pub stopped-ends : (reading : Reading) (writing : Writing) (stop : Stop) (status : ℕ)
-    → HasReason reading stop → WritesLine writing (words_of stop) → status ≡ status_of stop → Ends reading writing status
-stopped-ends reading writing because.Unbuilt status reason line is = Unbuilt reason line is
-stopped-ends reading writing because.Words status reason line is = NoCommand reason line is
-stopped-ends reading writing because.ReadFault status reason line is = ReadFault reason line is
-stopped-ends reading writing because.OutOfMemory status reason line is = NoMemory line is
-stopped-ends reading writing because.TooLong status reason line is = TooLong reason line is
+ends-no_command : (said : Option Command) (reading : Reading) (writing : Writing) (status : ℕ) → Ends said reading writing status → said ≡ None → (status ≡ 2) ⊎ (status ≡ 5)
+ends-no_command said reading writing status (Finished other output so out writes is) none = absurd (some-none said so none)
+ends-no_command said reading writing status (Refused other words so fault line is) none = absurd (some-none said so none)
+ends-no_command said reading writing status (NoCommand also same line is) none = inl is
+ends-no_command said reading writing status (ReadFault other so fails line is) none = absurd (some-none said so none)
+ends-no_command said reading writing status (WriteFault other output so out fails is) none = absurd (some-none said so none)
+ends-no_command said reading writing status (NoMemory line is) none = inr is
+ends-no_command said reading writing status (TooLong other so long line is) none = absurd (some-none said so none)
 
--- An input that was read isn't too long.
-too_long-not : (reading : Reading) (input : List ℕ) → reading.left ≡ Some input → IsTooLong reading → most_bytes < length input
-too_long-not reading input told long = omega (arith, long.1, taken-le reading.left reading.left_after input long.0 told long.2)
+ends-read_fault : (said : Option Command) (reading : Reading) (writing : Writing) (status : ℕ) → Ends said reading writing status → status ≡ 3 → Rose reading.faults reading.faults_after
+ends-read_fault said reading writing status (Finished other output so out writes is) three = absurd (omega (arith, is, three))
+ends-read_fault said reading writing status (Refused other words so fault line is) three = absurd (omega (arith, is, three))
+ends-read_fault said reading writing status (NoCommand none same line is) three = absurd (omega (arith, is, three))
+ends-read_fault said reading writing status (ReadFault other so fails line is) three = fails.rose
+ends-read_fault said reading writing status (WriteFault other output so out fails is) three = absurd (omega (arith, is, three))
+ends-read_fault said reading writing status (NoMemory line is) three = absurd (omega (arith, is, three))
+ends-read_fault said reading writing status (TooLong other so long line is) three = absurd (omega (arith, is, three))
 
-pub ends-complete : (words : List (String Global)) (reading : Reading) (writing : Writing) (status : ℕ) → ¬ (status ≡ 2)
-    → Ends reading writing status → IsComplete words reading writing status
-ends-complete words reading writing status other (Played output out writes is) input run some = inl is
-ends-complete words reading writing status other (Unbuilt unbuilt line is) input run some =
-    absurd (none-some (session_of input) (sym (ap session_of (input-is reading input unbuilt.0 run.tells unbuilt.1)) ∙ unbuilt.2) some)
-ends-complete words reading writing status other (NoCommand same line is) input run some = absurd (other is)
-ends-complete words reading writing status other (ReadFault fails line is) input run some = absurd (run.reads fails.rose)
-ends-complete words reading writing status other (WriteFault output out fails is) input run some = absurd (run.writes fails.rose)
-ends-complete words reading writing status other (NoMemory line is) input run some = inr is
-ends-complete words reading writing status other (TooLong long line is) input run some =
-    absurd (omega (arith, session-short input some, too_long-not reading input run.tells long))
+ends-write_fault : (said : Option Command) (reading : Reading) (writing : Writing) (status : ℕ) → Ends said reading writing status → status ≡ 4 → Rose writing.faults writing.faults_after
+ends-write_fault said reading writing status (Finished other output so out writes is) four = absurd (omega (arith, is, four))
+ends-write_fault said reading writing status (Refused other words so fault line is) four = absurd (omega (arith, is, four))
+ends-write_fault said reading writing status (NoCommand none same line is) four = absurd (omega (arith, is, four))
+ends-write_fault said reading writing status (ReadFault other so fails line is) four = absurd (omega (arith, is, four))
+ends-write_fault said reading writing status (WriteFault other output so out fails is) four = fails.rose
+ends-write_fault said reading writing status (NoMemory line is) four = absurd (omega (arith, is, four))
+ends-write_fault said reading writing status (TooLong other so long line is) four = absurd (omega (arith, is, four))
 
-pub ends-unbuilt : (words : List (String Global)) (reading : Reading) (writing : Writing) (status : ℕ) → ¬ (status ≡ 2)
-    → Ends reading writing status → NamesUnbuilt words reading writing status
-ends-unbuilt words reading writing status other (Played output out writes is) input run none within =
-    absurd (some-none (session_of input) (ap session_of (sym (input-is reading input out.0 run.tells out.1)) ∙ out.2.of_input) none)
-ends-unbuilt words reading writing status other (Unbuilt unbuilt line is) input run none within = inl is
-ends-unbuilt words reading writing status other (NoCommand same line is) input run none within = absurd (other is)
-ends-unbuilt words reading writing status other (ReadFault fails line is) input run none within = absurd (run.reads fails.rose)
-ends-unbuilt words reading writing status other (WriteFault output out fails is) input run none within = absurd (run.writes fails.rose)
-ends-unbuilt words reading writing status other (NoMemory line is) input run none within = inr is
-ends-unbuilt words reading writing status other (TooLong long line is) input run none within =
-    absurd (omega (arith, within, too_long-not reading input run.tells long))
+pub ends-causes : (said : Option Command) (reading : Reading) (writing : Writing) (status : ℕ) → Ends said reading writing status → HasCauses said reading writing status
+ends-causes said reading writing status ends = record {
+  no_command = ends-no_command said reading writing status ends;
+  complete = ends-complete said reading writing status ends;
+  input_fault = ends-fault said reading writing status ends;
+  too_long = ends-too_long said reading writing status ends;
+  read_fault = ends-read_fault said reading writing status ends;
+  write_fault = ends-write_fault said reading writing status ends;
+}
 
-pub ends-too_long : (words : List (String Global)) (reading : Reading) (writing : Writing) (status : ℕ) → ¬ (status ≡ 2)
-    → Ends reading writing status → NamesTooLong words reading writing status
-ends-too_long words reading writing status other (Played output out writes is) input run long =
-    absurd (not-long reading input out.0 run.tells out.1 long)
-ends-too_long words reading writing status other (Unbuilt unbuilt line is) input run long =
-    absurd (not-long reading input unbuilt.0 run.tells unbuilt.1 long)
-ends-too_long words reading writing status other (NoCommand same line is) input run long = absurd (other is)
-ends-too_long words reading writing status other (ReadFault fails line is) input run long = absurd (run.reads fails.rose)
-ends-too_long words reading writing status other (WriteFault output out fails is) input run long = absurd (run.writes fails.rose)
-ends-too_long words reading writing status other (NoMemory line is) input run long = inr is
-ends-too_long words reading writing status other (TooLong long' line is) input run long = inl is
+-- What is answered to an input is answered to what was read.
+pub answer-read : (it : Command) (reading : Reading) (input : List ℕ) (says : Answer) → IsInput reading input → IsAnswer it input says → IsAnswerTo it reading says
+answer-read it reading input (answer.Output text) is has = (input, is, has)
+answer-read it reading input (answer.Refusal text) is has = (has.0, (input, is, has.1), has.2)
 
--- A fault of the source has its cause.
-pub ends-read_fault : (reading : Reading) (writing : Writing) (status : ℕ) → Ends reading writing status → status ≡ 3 → Rose reading.faults reading.faults_after
-ends-read_fault reading writing status (Played output out writes is) three = absurd (omega (arith, is, three))
-ends-read_fault reading writing status (Unbuilt unbuilt line is) three = absurd (omega (arith, is, three))
-ends-read_fault reading writing status (NoCommand same line is) three = absurd (omega (arith, is, three))
-ends-read_fault reading writing status (ReadFault fails line is) three = fails.rose
-ends-read_fault reading writing status (WriteFault output out fails is) three = absurd (omega (arith, is, three))
-ends-read_fault reading writing status (NoMemory line is) three = absurd (omega (arith, is, three))
-ends-read_fault reading writing status (TooLong long line is) three = absurd (omega (arith, is, three))
+line-of : (writing : Writing) (text words : List ℕ) → text ≡ words ++ line_feed → Writes writing text ⊎ FailsToWrite writing text → WritesLine writing words
+line-of writing text words same written = subst (λ t. Writes writing t ⊎ FailsToWrite writing t) same written
 
--- So has one of the sink.
-pub ends-write_fault : (reading : Reading) (writing : Writing) (status : ℕ) → Ends reading writing status → status ≡ 4 → Rose writing.faults writing.faults_after
-ends-write_fault reading writing status (Played output out writes is) four = absurd (omega (arith, is, four))
-ends-write_fault reading writing status (Unbuilt unbuilt line is) four = absurd (omega (arith, is, four))
-ends-write_fault reading writing status (NoCommand same line is) four = absurd (omega (arith, is, four))
-ends-write_fault reading writing status (ReadFault fails line is) four = absurd (omega (arith, is, four))
-ends-write_fault reading writing status (WriteFault output out fails is) four = fails.rose
-ends-write_fault reading writing status (NoMemory line is) four = absurd (omega (arith, is, four))
-ends-write_fault reading writing status (TooLong long line is) four = absurd (omega (arith, is, four))
+pub answered-ends : (it : Command) (reading : Reading) (writing : Writing) (says : Answer) (status : ℕ)
+    → IsAnswerTo it reading says → Finishes writing says status → Ends (Some it) reading writing status
+answered-ends it reading writing (answer.Output text) status out (inl done) = Finished it (string_bytes text) refl out done.0 done.1
+answered-ends it reading writing (answer.Output text) status out (inr failed) = WriteFault it (string_bytes text) refl out failed.0 failed.1
+answered-ends it reading writing (answer.Refusal text) status has written =
+    Refused it has.0 refl has.1 (line-of writing (string_bytes text) has.0 has.2 written.0) written.1
+
+pub stopped-ends : (it : Command) (reading : Reading) (writing : Writing) (stop : Stop) (status : ℕ)
+    → HasCause reading stop → WritesLine writing (words_of stop) → status ≡ status_of stop → Ends (Some it) reading writing status
+stopped-ends it reading writing because.Words status cause line is = absurd cause
+stopped-ends it reading writing because.ReadFault status cause line is = ReadFault it refl cause line is
+stopped-ends it reading writing because.OutOfMemory status cause line is = NoMemory line is
+stopped-ends it reading writing because.TooLong status cause line is = TooLong it refl cause line is

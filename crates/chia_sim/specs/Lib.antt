@@ -3,6 +3,10 @@ pub mod Opening
 pub mod Replies
 pub mod Looks
 pub mod Outside
+pub mod Tools
+pub mod Outputs
+pub mod Played
 pub mod Headline
 pub mod Causes
 pub mod Stops
+pub mod FirstWord

@@ -1,8 +1,10 @@
 //! The program: it plays a session of JSON lines, and writes one history of it.
 #![tactic(auto)]
 
+mod answer;
 mod bundles;
 mod form;
+mod hash;
 mod lines;
 mod members;
 mod opening;
@@ -10,6 +12,7 @@ mod play;
 mod reply;
 mod report;
 mod run;
+mod session;
 mod stop;
 #[cfg(test)]
 mod tests;

@@ -1,114 +1,143 @@
-ghost use Rattle.std.specs.Prelude.{◌≡◌, ◌≤◌, ◌++◌, ◌↔◌, List, IsTrue, IfOk, IfErr, string_bytes};
-ghost use Rattle.ports_io.specs.Outside.{Rose};
-ghost use Rattle.session_spec.specs.Texts.{line_feed};
+ghost use Rattle.std.specs.Prelude.{◌≡◌, ◌≤◌, Some, false, IfOk, IfErr};
 ghost use Rattle.chia_sim.specs.Outside.{reading, writing, WritesLine};
-ghost use Rattle.chia_sim.specs.Headline.{AreWords, Ends, IsOutput};
-ghost use Rattle.chia_sim.specs.Causes.{IsComplete, NamesUnbuilt, NamesTooLong};
-ghost use Rattle.chia_sim.specs.Stops.{status_of, words_of, HasReason, IsAnswered, Finishes};
+ghost use Rattle.chia_sim.specs.Headline.{said, Ends};
+ghost use Rattle.chia_sim.specs.Causes.{HasCauses};
+ghost use Rattle.chia_sim.specs.Stops.{status_of, words_of, HasCause, IsAnswerTo, Finishes};
+ghost use Rattle.chia_sim.specs.FirstWord.{begin_with_session};
 
-use crate::form::FormFault;
-use crate::opening::open;
-use crate::play::play;
-use crate::report::report;
+use crate::answer::{Answer, answer_to};
 use crate::stop::Stop;
 use ports_io::{Gate, Library, Sink, Source, read_to_limit, write_all};
 use std::alloc::Global;
+use tool_words::{Command, WordsFault, command};
 
 // The most bytes of an input.
 const MOST_BYTES: usize = 67_108_864;
 
 /// Runs the program on its arguments without its own name, and gives the status that it ends with.
 ///
-/// The whole input is read before anything is written. The status is 0 where the input is a session that was played,
-/// and its history was written; 1 where the input is no session of the form that is built; 2 where the words aren't
-/// the one word `session`; 3 where the source failed; 4 where the sink failed; 5 where there was no memory; 7 where
-/// the input has more than 67,108,864 bytes. The library isn't asked, and the gate isn't passed.
+/// The whole input is read before anything is written. The status is 0 where the command was done and its output was
+/// written; 1 where the input isn't of the command's form; 2 where the words aren't a command; 3 where the source
+/// failed; 4 where the sink failed; 5 where there was no memory; 7 where the input has more than 67,108,864 bytes.
+/// The library isn't asked, and the gate isn't passed.
 pub fn run<S: Source, K: Sink, B: Library, G: Gate>(
     alloc: Global,
     words: &[String],
     source: &mut S,
     sink: &mut K,
-    _library: &mut B,
+    library: &mut B,
     _gate: &G,
 ) -> u8
-    ensures headline { Ends
+    ensures headline { Ends (said words.now)
         (reading (S.left source.old) (S.left source.new) (S.faults source.old) (S.faults source.new))
         (writing (K.got sink.old) (K.got sink.new) (K.faults sink.old) (K.faults sink.new)) result }
-    ensures words { (result ≡ 2) ↔ (¬ AreWords words.now) }
-    ensures complete { IsComplete words.now
+    ensures causes { HasCauses (said words.now)
         (reading (S.left source.old) (S.left source.new) (S.faults source.old) (S.faults source.new))
         (writing (K.got sink.old) (K.got sink.new) (K.faults sink.old) (K.faults sink.new)) result }
-    ensures unbuilt { NamesUnbuilt words.now
-        (reading (S.left source.old) (S.left source.new) (S.faults source.old) (S.faults source.new))
-        (writing (K.got sink.old) (K.got sink.new) (K.faults sink.old) (K.faults sink.new)) result }
-    ensures too_long { NamesTooLong words.now
-        (reading (S.left source.old) (S.left source.new) (S.faults source.old) (S.faults source.new))
-        (writing (K.got sink.old) (K.got sink.new) (K.faults sink.old) (K.faults sink.new)) result }
-    ensures read_fault { result ≡ 3 → Rose (S.faults source.old) (S.faults source.new) }
-    ensures write_fault { result ≡ 4 → Rose (K.faults sink.old) (K.faults sink.new) }
     ensures source_later { S.faults source.old ≤ S.faults source.new }
     ensures sink_later { K.faults sink.old ≤ K.faults sink.new }
 {
-    if is_session(words) {
-        run_session(alloc, source, sink)
+    if begin_with_session(words) {
+        run_words(alloc, words, source, sink)
     } else {
-        end_with(sink, Stop::Words)
+        run_tool(alloc, words, source, sink, library)
     }
 }
 
-// Whether the words are the one word `session`.
-fn is_session(words: &[String]) -> bool
-    ensures { IsTrue result ↔ AreWords words.now }
+/// Runs a command on one input. The first word isn't `session`. The library isn't asked.
+pub fn run_tool<S: Source, K: Sink, B: Library>(
+    alloc: Global,
+    words: &[String],
+    source: &mut S,
+    sink: &mut K,
+    _library: &mut B,
+) -> u8
+    requires { begin_with_session words.now ≡ false }
+    ensures headline { Ends (said words.now)
+        (reading (S.left source.old) (S.left source.new) (S.faults source.old) (S.faults source.new))
+        (writing (K.got sink.old) (K.got sink.new) (K.faults sink.old) (K.faults sink.new)) result }
+    ensures causes { HasCauses (said words.now)
+        (reading (S.left source.old) (S.left source.new) (S.faults source.old) (S.faults source.new))
+        (writing (K.got sink.old) (K.got sink.new) (K.faults sink.old) (K.faults sink.new)) result }
+    ensures source_later { S.faults source.old ≤ S.faults source.new }
+    ensures sink_later { K.faults sink.old ≤ K.faults sink.new }
+{
+    run_words(alloc, words, source, sink)
+}
+
+// Whether the first word is `session`.
+fn begin_with_session(words: &[String]) -> bool
+    ensures { result ≡ begin_with_session words.now }
 {
     match words {
-        [word] => word.as_str() == "session",
-        _ => false,
+        [word, ..] => word.as_str() == "session",
+        [] => false,
     }
 }
 
-fn run_session<S: Source, K: Sink>(alloc: Global, source: &mut S, sink: &mut K) -> u8
-    ensures headline { Ends
+fn run_words<S: Source, K: Sink>(
+    alloc: Global,
+    words: &[String],
+    source: &mut S,
+    sink: &mut K,
+) -> u8
+    ensures headline { Ends (said words.now)
         (reading (S.left source.old) (S.left source.new) (S.faults source.old) (S.faults source.new))
         (writing (K.got sink.old) (K.got sink.new) (K.faults sink.old) (K.faults sink.new)) result }
-    ensures other { ¬ (result ≡ 2) }
     ensures source_later { S.faults source.old ≤ S.faults source.new }
     ensures sink_later { K.faults sink.old ≤ K.faults sink.new }
 {
-    match answer(alloc, source) {
-        Ok(output) => finish(sink, output.as_str()),
+    match command(alloc, words) {
+        Ok(command) => run_command(alloc, command, source, sink),
+        Err(WordsFault::Words) => end_with(sink, Stop::Words),
+        Err(WordsFault::OutOfMemory) => end_with(sink, Stop::OutOfMemory),
+    }
+}
+
+fn run_command<S: Source, K: Sink>(
+    alloc: Global,
+    command: Command,
+    source: &mut S,
+    sink: &mut K,
+) -> u8
+    ensures headline { Ends (Some command)
+        (reading (S.left source.old) (S.left source.new) (S.faults source.old) (S.faults source.new))
+        (writing (K.got sink.old) (K.got sink.new) (K.faults sink.old) (K.faults sink.new)) result }
+    ensures source_later { S.faults source.old ≤ S.faults source.new }
+    ensures sink_later { K.faults sink.old ≤ K.faults sink.new }
+{
+    match answer(alloc, command, source) {
+        Ok(answer) => finish(sink, &answer),
         Err(stop) => end_with(sink, stop),
     }
 }
 
-// What is to be written for the session in a source, or why there is none.
-fn answer<S: Source>(alloc: Global, source: &mut S) -> Result<String, Stop>
-    ensures output { IfOk result (λ output. IsOutput
-        (reading (S.left source.old) (S.left source.new) (S.faults source.old) (S.faults source.new)) (string_bytes output)) }
-    ensures reason { IfErr result (λ stop. HasReason
-        (reading (S.left source.old) (S.left source.new) (S.faults source.old) (S.faults source.new)) stop) }
-    ensures other { IfErr result (λ stop. ¬ (stop ≡ Stop.Words)) }
+// What a command says to the input that a source has, or why it says nothing.
+fn answer<S: Source>(alloc: Global, command: Command, source: &mut S) -> Result<Answer, Stop>
+    ensures answer { IfOk result (IsAnswerTo command
+        (reading (S.left source.old) (S.left source.new) (S.faults source.old) (S.faults source.new))) }
+    ensures cause { IfErr result (HasCause
+        (reading (S.left source.old) (S.left source.new) (S.faults source.old) (S.faults source.new))) }
     ensures later { S.faults source.old ≤ S.faults source.new }
 {
     let input = read_to_limit(alloc, source, MOST_BYTES)?;
-    Ok(answer_to(alloc, &input)?)
+    Ok(answer_to(alloc, command, &input)?)
 }
 
-// What is to be written for an input, or why there is nothing.
-fn answer_to(alloc: Global, input: &[u8]) -> Result<String, FormFault>
-    ensures { IsAnswered input.now result }
-{
-    let history = play(alloc, open(alloc, input)?)?;
-    Ok(report(alloc, &history)?)
-}
-
-// Writes an output, and tells the status.
-fn finish<K: Sink>(sink: &mut K, output: &str) -> u8
-    ensures status { Finishes (writing (K.got sink.old) (K.got sink.new) (K.faults sink.old) (K.faults sink.new)) output.now result }
+// Writes an answer, and tells the status. A fault of the input keeps its status where the sink fails.
+fn finish<K: Sink>(sink: &mut K, answer: &Answer) -> u8
+    ensures status { Finishes (writing (K.got sink.old) (K.got sink.new) (K.faults sink.old) (K.faults sink.new)) answer.now result }
     ensures later { K.faults sink.old ≤ K.faults sink.new }
 {
-    match write_all(sink, output.as_bytes()) {
-        Ok(()) => 0,
-        Err(_) => 4,
+    match answer {
+        Answer::Output(text) => match write_all(sink, text.as_bytes()) {
+            Ok(()) => 0,
+            Err(_) => 4,
+        },
+        Answer::Refusal(text) => {
+            let _ = write_all(sink, text.as_bytes());
+            1
+        }
     }
 }
 

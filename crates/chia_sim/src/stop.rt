@@ -1,15 +1,14 @@
 ghost use Rattle.std.specs.Prelude.{◌≡◌, ◌++◌};
 ghost use Rattle.session_spec.specs.Texts.{line_feed};
-ghost use Rattle.chia_sim.specs.Stops.{status_of, words_of, stop_of_input, stop_of_form};
+ghost use Rattle.chia_sim.specs.Stops.{status_of, words_of, stop_of_input};
+ghost use Rattle.chia_sim.specs.declared.stop.Stop.TheVariants as because;
 
-use crate::form::FormFault;
+use coin_facts::OutOfMemory;
 use ports_io::InputFault;
 
-/// Why the program plays no session.
+/// Why the program does no command.
 #[derive(Clone, Copy, Debug, PartialEq, Eq)]
 pub(crate) enum Stop {
-    /// The input isn't of the form that is built.
-    Unbuilt,
     /// The words aren't a command.
     Words,
     ReadFault,
@@ -24,7 +23,6 @@ impl Stop {
         ensures { result ≡ status_of self }
     {
         match self {
-            Stop::Unbuilt => 1,
             Stop::Words => 2,
             Stop::ReadFault => 3,
             Stop::OutOfMemory => 5,
@@ -37,7 +35,6 @@ impl Stop {
         ensures { result.now ≡ words_of self ++ line_feed }
     {
         match self {
-            Stop::Unbuilt => "unbuilt\n",
             Stop::Words => "words\n",
             Stop::ReadFault => "read fault\n",
             Stop::OutOfMemory => "memory\n",
@@ -58,13 +55,10 @@ impl From<InputFault> for Stop {
     }
 }
 
-impl From<FormFault> for Stop {
-    ghost from_gives = { λ fault stop. stop ≡ stop_of_form fault };
+impl From<OutOfMemory> for Stop {
+    ghost from_gives = { λ _ stop. stop ≡ because.OutOfMemory };
 
-    fn from(fault: FormFault) -> Stop {
-        match fault {
-            FormFault::Unbuilt => Stop::Unbuilt,
-            FormFault::OutOfMemory => Stop::OutOfMemory,
-        }
+    fn from(_: OutOfMemory) -> Stop {
+        Stop::OutOfMemory
     }
 }

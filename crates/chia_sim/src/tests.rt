@@ -6,6 +6,7 @@ use std::test::Fail;
 
 mod faults;
 mod forms;
+mod hashes;
 mod sessions;
 
 const HEADER: &str =
@@ -98,16 +99,17 @@ fn run_session<K: Sink>(
 }
 
 // Runs on an input that is given in one piece.
-fn run_on(alloc: Global, input: &str) -> Result<Outcome, AllocError> {
+fn run_on(alloc: Global, arguments: &str, input: &str) -> Result<Outcome, AllocError> {
+    let arguments = words(alloc, arguments)?;
     let input = Vec::from_slice(alloc, input.as_bytes())?;
     let mut source = MemorySource::new(input, 100_000, Vec::new(alloc));
     let mut sink = MemorySink::new(alloc, Vec::new(alloc));
-    let status = run_session(alloc, &mut source, &mut sink)?;
+    let status = run_with(alloc, &arguments, &mut source, &mut sink);
     let written = Vec::from_slice(alloc, sink.bytes())?;
     Ok(Outcome { status, written })
 }
 
 fn writes(alloc: Global, input: &str, status: u8, text: &str) -> Result<bool, Fail> {
-    let outcome = run_on(alloc, input)?;
+    let outcome = run_on(alloc, "session", input)?;
     Ok(outcome.status == status && outcome.written.as_slice() == text.as_bytes())
 }

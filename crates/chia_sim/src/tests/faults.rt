@@ -26,7 +26,9 @@ fn words_that_are_no_command(rt: HostRuntime) -> Result<(), Fail> {
         "Session",
         "session --summary",
         "session session",
-        "hash",
+        "hash 80",
+        "hash --",
+        "hash -",
     ] {
         let arguments = words(alloc, arguments)?;
         let mut source = source(alloc, &input, 100, Vec::new(alloc))?;
