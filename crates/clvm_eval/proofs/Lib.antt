@@ -1,0 +1,4 @@
+pub mod PathLaws
+pub mod WorkLaws
+pub mod StateLaws
+pub mod FormLaws

@@ -1,0 +1,4 @@
+pub mod Runs
+pub mod PendingWork
+pub mod Steps
+pub mod Paths

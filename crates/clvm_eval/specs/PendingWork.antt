@@ -1,0 +1,53 @@
+-- What pending work comes to, on trees: each piece of work goes on with what is below it. This project's own.
+use Rattle.std.specs.Prelude.{ℕ, suc, ◌-◌, ◌≤◌, Bool, false, List, [], ◌∷◌, take, drop, map, if◌then◌else◌}
+use Rattle.clvm_spec.specs.declared.fuel.Fuel.{Fuel}
+use Rattle.clvm_spec.specs.Tree.{Tree, Atom, Pair}
+use Rattle.clvm_spec.specs.Outcomes.{Outcome, Done, Wide}
+use Rattle.clvm_spec.specs.Evaluation.{if_done, is_byte, goes_on, in_form, evaluation}
+use Rattle.clvm_tree.specs.Operators.{outcome_by}
+
+pub data Work : Type 0 where
+  -- to evaluate a program
+  Evaluate : (program env : Tree) (depth : ℕ) → Work
+  -- to apply the operator of this code to so many values
+  Operate : (code form : Tree) (depth count : ℕ) → Work
+
+-- goes on with the values so far, the newest first
+abbrev pub Going : Type 0
+Going = List Tree → Fuel → Outcome
+
+abbrev pub is_apply : Tree → Bool
+is_apply (Atom code) = is_byte 2 code
+is_apply (Pair first rest) = false
+
+abbrev pub operated : Tree → Tree → ℕ → List Tree → Fuel → Outcome
+operated code form depth values left =
+    if is_apply code then goes_on evaluation form depth values left else in_form form left (outcome_by code values left)
+
+abbrev pub done_by : Work → Going → Going
+done_by (Evaluate program env depth) go values left = if_done (evaluation program env depth left) (λ value after. go (value ∷ values) after)
+done_by (Operate code form depth count) go values left =
+    if_done (operated code form depth (take count values) left) (λ value after. go (value ∷ drop count values) after)
+
+-- work from the bottom up, so the last is done first
+abbrev pub worked_off : List Work → Going → Going
+worked_off [] go = go
+worked_off (work ∷ above) go = worked_off above (done_by work go)
+
+-- With no work left, the one value is the run's.
+abbrev pub ends : Going
+ends [] left = Wide
+ends (value ∷ values) left = Done value left
+
+abbrev pub operand_work : Tree → ℕ → List Tree → List Work
+operand_work env depth operands = map (λ operand. Evaluate operand env depth) operands
+
+-- The values suffice for a piece of work, and for what goes on.
+abbrev pub Suffices : Work → (ℕ → Type 0) → ℕ → Type 0
+Suffices (Evaluate program env depth) go count = go (suc count)
+Suffices (Operate code form depth taken) go count = (taken ≤ count) × go (suc (count - taken))
+
+-- So many values suffice for all the work, and one is there at the end.
+abbrev pub AllSuffice : List Work → (ℕ → Type 0) → ℕ → Type 0
+AllSuffice [] go = go
+AllSuffice (work ∷ above) go = AllSuffice above (Suffices work go)

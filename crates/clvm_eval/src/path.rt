@@ -1,0 +1,77 @@
+//! An atom as a path into an environment.
+
+ghost use Rattle.std.specs.Prelude.{◌≡◌, ℕ, ◌+◌, ◌<◌, ◌≤◌, ◌^◌, MatchOption};
+ghost use Rattle.clvm_spec.specs.Path.{Astray, path_value, path_cost};
+ghost use Rattle.clvm_tree.specs.Nodes.{tree_at, IsKnown, IsAtom};
+ghost use Rattle.clvm_eval.specs.Paths.{IsStep, IsFollowed, IsAstray, IsReached};
+
+use clvm_spec::arithmetic::leading_zero_bytes;
+use clvm_tree::{Node, Trees};
+
+/// A node, and the steps to it.
+#[derive(Clone, Copy, Debug)]
+pub(crate) struct Place {
+    pub(crate) node: Node,
+    pub(crate) steps: u32,
+}
+
+// One step on, by a bit: 0 to the first, 1 to the rest. None at an atom.
+fn step(trees: &Trees, from: Place, bit: u32) -> Option<Place>
+    requires known { IsKnown trees.now from.node.0 }
+    requires few { from.node.0 + from.steps < 2 ^ 32 }
+    ensures { MatchOption result (IsAtom (tree_at trees.now from.node.0)) (IsStep trees.now from bit) }
+{
+    let (first, rest) = trees.as_pair(from.node)?;
+    let steps = from.steps + 1;
+    if bit == 0 {
+        Some(Place { node: first, steps })
+    } else {
+        Some(Place { node: rest, steps })
+    }
+}
+
+// Follows the bits below the highest set one, from the lowest up.
+fn descend(trees: &Trees, from: Place, bits: u32) -> Option<Place>
+    requires known { IsKnown trees.now from.node.0 }
+    requires few { from.node.0 + from.steps < 2 ^ 32 }
+    ensures { MatchOption result (IsAstray trees.now from bits) (IsFollowed trees.now from bits) }
+{
+    let mut at = from;
+    let mut left = bits;
+    'bits: while left > 1 {
+        at = step(trees, at, left % 2)?;
+        left /= 2;
+    }
+    Some(at)
+}
+
+/// Where a path leads, from its last byte on. None where it steps into an atom.
+pub(crate) fn follow(trees: &Trees, path: &[u8], env: Node) -> Option<Place>
+    requires { IsKnown trees.now env.0 }
+    ensures { MatchOption result (path_value path.now (tree_at trees.now env.0) ≡ Astray) (IsReached trees.now path.now (tree_at trees.now env.0)) }
+{
+    let zeros = leading_zero_bytes(path);
+    if zeros == path.len() {
+        return Some(Place {
+            node: trees.nil(),
+            steps: 0,
+        });
+    }
+    let mut at = Place {
+        node: env,
+        steps: 0,
+    };
+    let mut end = path.len();
+    'bytes: while end > zeros + 1 {
+        end -= 1;
+        at = descend(trees, at, 0x100 + path[end] as u32)?;
+    }
+    descend(trees, at, path[zeros] as u32)
+}
+
+/// What it costs to follow a path by so many steps.
+pub(crate) fn cost_of_path(path: &[u8], steps: u32) -> u128
+    ensures { result ≡ path_cost path.now steps }
+{
+    44 + 4 * leading_zero_bytes(path) as u128 + 4 * steps as u128
+}

@@ -1,0 +1,12 @@
+pub mod Fits
+pub mod Rests
+pub mod Answered
+pub mod NodeLists
+pub mod TreeLaws
+pub mod ReadLaws
+pub mod AtomLaws
+pub mod PartLaws
+pub mod FoldLaws
+pub mod NumberOps
+pub mod DivisionLaws
+pub mod ShiftLaws

@@ -1,0 +1,24 @@
+-- Shifts either way.
+use Rattle.std.proofs.Common.{◌≡◌, ℕ, zero, suc, ◌+◌, ◌-◌, ◌*◌, ◌/◌, ◌^◌, ◌<◌, ◌≤◌, ℤ, pos, negsuc, neg_ℤ, ◌*ℤ◌, ◌<ℤ◌, ◌≤ℤ◌, Bool, true, false, cond, Option, Some, None, List, length, FitsSigned, to_z, of_z, refl, sym, ap, ap₂, ◌∙◌, arith}
+use Rattle.std.proofs.lemmas.Bool.{cond-true}
+use Rattle.clvm_spec.specs.Tree.{Tree}
+use Rattle.clvm_spec.specs.Numbers.{number, unsigned}
+use Rattle.clvm_spec.specs.Arithmetic.{if_fits, is_shift, shifted}
+use Rattle.clvm_spec.specs.Outcomes.{Applied, Fails, WrongShift}
+use Rattle.clvm_spec.specs.Operators.{two_numbers, shift, shifted_number, shift_of_number, shift_of_bits}
+use Rattle.clvm_ops.specs.Answering.{shifted_or_wide}
+use Rattle.clvm_ops.proofs.Answered.{shifted_or_wide-if_fits}
+
+shift_held : (cost size : ℕ) (n by : ℤ) (result : Option ℤ) → is_shift by ≡ true → result ≡ if_fits (shifted n by) → shift cost size n by ≡ shifted_or_wide cost size result
+shift_held cost size n by result fair is =
+    cond-true _ (shifted_number cost size (shifted n by)) (Fails WrongShift) fair ∙ sym (shifted_or_wide-if_fits cost size (shifted n by)) ∙ ap (shifted_or_wide cost size) (sym is)
+
+pub shift_of_number_is : (operands : List Tree) (x y : List ℕ) (n by : ℤ) (result : Option ℤ) → ((go : List ℕ → List ℕ → Applied) → two_numbers operands go ≡ go x y) → n ≡ number x → by ≡ number y
+    → is_shift by ≡ true → result ≡ if_fits (shifted n by) → shift_of_number operands ≡ shifted_or_wide 596 (length x) result
+shift_of_number_is operands x y n by result read first second fair is =
+    read (λ a by. shift 596 (length a) (number a) (number by)) ∙ ap₂ (shift 596 (length x)) (sym first) (sym second) ∙ shift_held 596 (length x) n by result fair is
+
+pub shift_of_bits_is : (operands : List Tree) (x y : List ℕ) (n : ℕ) (by : ℤ) (result : Option ℤ) → ((go : List ℕ → List ℕ → Applied) → two_numbers operands go ≡ go x y) → n ≡ unsigned x → by ≡ number y
+    → is_shift by ≡ true → result ≡ if_fits (shifted (pos n) by) → shift_of_bits operands ≡ shifted_or_wide 277 (length x) result
+shift_of_bits_is operands x y n by result read first second fair is =
+    read (λ a by. shift 277 (length a) (pos (unsigned a)) (number by)) ∙ ap₂ (λ k b. shift 277 (length x) (pos k) b) (sym first) (sym second) ∙ shift_held 277 (length x) (pos n) by result fair is

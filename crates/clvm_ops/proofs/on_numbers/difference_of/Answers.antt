@@ -1,0 +1,13 @@
+use Rattle.std.proofs.Common.{length}
+use Rattle.clvm_ops.proofs.Answered.{faulty, answers_same}
+use Rattle.clvm_ops.proofs.NumberOps.{difference_of_is}
+use Rattle.clvm_ops.proofs.on_numbers.difference_of.Goals as goal
+
+pub returns-in_err-size : goal.returns-in_err-size
+returns-in_err-size c = faulty c.args.trees.now (length c.args.operands.now) c.args.left _ c.in_err-size.field-0.0 _ c.from_residual.ensures.1 (c.in_err-size.ensures.err _)
+
+pub returns : goal.returns
+returns c =
+    let trees = c.args.trees.now in
+    answers_same trees c.give_if_held.new.trees (length c.args.operands.now) c.args.left _ _ _
+    (difference_of_is trees c.args.operands.now c.in_ok-size.size c.difference-difference.result c.in_ok-size.ensures.ok c.difference-difference.ensures) (c.give_if_held.ensures (length c.args.operands.now))

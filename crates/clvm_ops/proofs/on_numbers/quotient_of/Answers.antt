@@ -1,0 +1,21 @@
+use Rattle.std.proofs.Common.{FitsSigned, length, ap, ◌∙◌}
+use Rattle.std.specs.Int.{w128}
+use Rattle.std.proofs.lemmas.Int.{to_z-of_z}
+use Rattle.clvm_spec.specs.Arithmetic.{is_zero}
+use Rattle.clvm_tree.specs.Operators.{trees_at}
+use Rattle.clvm_ops.proofs.Answered.{faulty, answers_same}
+use Rattle.clvm_ops.proofs.NumberOps.{quotient_of_is, is_zero-false}
+use Rattle.clvm_ops.proofs.on_numbers.quotient_of.Goals as goal
+
+pub returns-in_err-first : goal.returns-in_err-first
+returns-in_err-first c = faulty c.args.trees.now (length c.args.operands.now) c.args.left _ c.in_err-first.field-0.0 _ c.from_residual.ensures.1 (c.in_err-first.ensures.err _)
+
+pub returns : goal.returns
+returns c =
+    let trees = c.args.trees.now in
+    let number_fits : FitsSigned w128 c.number.result = record { sfits = c.number.type_inv } in
+    let divisor_fits : FitsSigned w128 c.number-divisor.result = record { sfits = c.number-divisor.type_inv } in
+    let divisor = to_z-of_z w128 _ divisor_fits in
+    answers_same trees c.give_if_held.new.trees (length c.args.operands.now) c.args.left _ _ _
+    (quotient_of_is (trees_at trees c.args.operands.now) _ _ _ _ c.quotient_of-quotient.result c.in_ok-first.ensures.ok (to_z-of_z w128 _ number_fits ∙ c.number.ensures) (divisor ∙ c.number-divisor.ensures)
+    (ap is_zero divisor ∙ is_zero-false c.number-divisor.result c.if-divisor-eq0.false) c.quotient_of-quotient.ensures) (c.give_if_held.ensures (length c.args.operands.now))

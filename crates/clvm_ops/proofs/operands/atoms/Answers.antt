@@ -1,0 +1,20 @@
+use Rattle.std.proofs.Common.{arith, rules}
+use Rattle.clvm_ops.proofs.Answered.{handed}
+use Rattle.clvm_ops.proofs.NodeLists.{known_at}
+use Rattle.clvm_ops.proofs.ReadLaws.{atoms_more, atoms_bad, atoms_whole}
+use Rattle.clvm_ops.proofs.operands.atoms.Goals as goal
+
+pub atom_at-requires : goal.atom_at-requires
+atom_at-requires c = known_at c.args.trees.now c.args.operands.now c.loop-place.place record { 0 = 0 } c.requires.known (omega arith)
+
+pub returns-in_err-size-clause-err : goal.returns-in_err-size-clause-err
+returns-in_err-size-clause-err c =
+    handed _ c.in_err-size.field-0.0 _ c.from_residual.ensures.1
+    (atoms_bad c.args.trees.now c.args.operands.now c.loop-place.place c.loop-place.size record { 0 = 0 } _ (omega arith) c.loop-place.invariant c.in_err-size.ensures.err)
+
+pub loop-place-preserved : goal.loop-place-preserved
+loop-place-preserved c =
+    atoms_more c.args.trees.now c.args.operands.now c.loop-place.place c.loop-place.size record { 0 = 0 } c.in_ok-size.field-0.now (omega arith) c.in_ok-size.ensures.ok (search rules) c.loop-place.invariant
+
+pub returns-clause-ok : goal.returns-clause-ok
+returns-clause-ok c = atoms_whole c.args.trees.now c.args.operands.now c.loop-place.place c.loop-place.size (omega arith) c.loop-place.invariant

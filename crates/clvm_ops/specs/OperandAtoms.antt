@@ -1,0 +1,33 @@
+-- The atoms of the operands, as the operators read them. This project's own.
+use Rattle.std.specs.Prelude.{◌≡◌, ℕ, ◌*◌, ◌^◌, ◌≤◌, Bool, true, false, List, [], length, map, nat_le}
+use Rattle.std.specs.List.{All}
+use Rattle.clvm_spec.specs.Tree.{Tree, Atom, Pair}
+use Rattle.clvm_spec.specs.Outcomes.{Applied}
+use Rattle.clvm_spec.specs.Operators.{atoms, numbers, lengths}
+use Rattle.clvm_tree.specs.Operators.{trees_at}
+use Rattle.clvm_tree.specs.declared.Node.{Node}
+
+-- the bytes of an atom; a pair has none
+abbrev pub bytes_of : Tree → List ℕ
+bytes_of (Atom bytes) = bytes
+bytes_of (Pair first rest) = []
+
+abbrev pub atoms_at : List Tree → List Node → List (List ℕ)
+atoms_at trees nodes = map bytes_of (trees_at trees nodes)
+
+-- at most 16 bytes
+abbrev pub is_short : List ℕ → Bool
+is_short bytes = nat_le (length bytes) 16
+
+-- The operands are all atoms, of so many bytes in all.
+pub record HaveAtoms (trees : List Tree) (operands : List Node) (size : ℕ) : Type 0 where
+  pub read : (go : List (List ℕ) → Applied) → atoms (trees_at trees operands) go ≡ go (atoms_at trees operands)
+  pub size_is : size ≡ lengths (atoms_at trees operands)
+  pub few : size ≤ length operands * 2 ^ 63
+
+-- They are all numbers, of so many bytes in all.
+pub record HaveNumbers (trees : List Tree) (operands : List Node) (size : ℕ) : Type 0 where
+  pub read : (go : List (List ℕ) → Applied) → numbers (trees_at trees operands) go ≡ go (atoms_at trees operands)
+  pub short : All (λ bytes. is_short bytes ≡ true) (atoms_at trees operands)
+  pub size_is : size ≡ lengths (atoms_at trees operands)
+  pub few : size ≤ length operands * 16

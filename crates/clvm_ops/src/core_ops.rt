@@ -1,0 +1,93 @@
+//! The table of operators.
+
+ghost use Rattle.std.specs.Prelude.{◌≡◌, ◌≢◌, ◌+◌, ◌<◌, ◌^◌, List, [], ◌∷◌, length, IfSome, IfNone};
+ghost use Rattle.clvm_spec.specs.declared.fuel.Fuel.{Fuel};
+ghost use Rattle.clvm_spec.specs.Tree.{Tree, Atom};
+ghost use Rattle.clvm_spec.specs.Outcomes.{Fails, NoOperator};
+ghost use Rattle.clvm_spec.specs.OperatorTable.{applied};
+ghost use Rattle.clvm_tree.specs.Nodes.{tree_at, IsKnown, AreKnown};
+ghost use Rattle.clvm_tree.specs.Operators.{trees_at, outcome_by};
+ghost use Rattle.clvm_ops.specs.Answering.{Answers};
+
+use crate::division::quotient_and_remainder;
+use crate::on_atoms::{bytes_greater_flag, concat_of, equal_flag, hash_of, length_of};
+use crate::on_numbers::{
+    and_of, complement_of, difference_of, greater_flag, or_of, product_of, quotient_of, sum_of,
+    xor_of,
+};
+use crate::on_trees::{choice, first_of, new_pair, pair_flag, raised, rest_of};
+use crate::parts::part_of;
+use crate::shifts::{shift_of_bits, shift_of_number};
+use crate::truth::{all_flag, any_flag, nil_flag};
+use case_table::by_operator;
+use clvm_tree::{Answer, Fuel, Node, OpFault, Operators, Sight, Trees};
+use std::alloc::Global;
+
+/// The operators of CLVM, but `q` and `a`, which are no operators on values.
+#[derive(Clone, Copy, Debug, PartialEq, Eq)]
+pub struct CoreOps;
+
+impl Operators for CoreOps {
+    fn apply(
+        &self,
+        alloc: Global,
+        trees: &mut Trees,
+        code: Node,
+        operands: &[Node],
+        left: Fuel,
+    ) -> Result<Answer, OpFault> {
+        match code_of(trees, code) {
+            Some(code) => apply_code(alloc, trees, code, operands, left),
+            None => Err(OpFault::NoOperator),
+        }
+    }
+}
+
+// The one byte of an operator's code.
+fn code_of(trees: &Trees, code: Node) -> Option<u8>
+    requires { IsKnown trees.now code.0 }
+    ensures some { IfSome result (λ byte. tree_at trees.now code.0 ≡ Atom (byte ∷ [])) }
+    ensures none { IfNone result ((operands : List Tree) (left : Fuel) →
+        outcome_by (tree_at trees.now code.0) operands left ≡ Fails NoOperator) }
+{
+    match trees.look(code) {
+        Sight::Bytes(bytes) => one_byte(bytes),
+        Sight::Parts(_, _) => None,
+    }
+}
+
+fn one_byte(bytes: &[u8]) -> Option<u8>
+    ensures some { IfSome result (λ byte. bytes.now ≡ byte ∷ []) }
+    ensures none { IfNone result (length bytes.now ≢ 1) }
+{
+    match bytes {
+        [byte] => Some(*byte),
+        _ => None,
+    }
+}
+
+#[tactic(auto, unfolding(clvm_spec::specs::OperatorTable::applied, clvm_spec::specs::OperatorTable::operator_of))]
+fn apply_code(
+    alloc: Global,
+    trees: &mut Trees,
+    code: u8,
+    operands: &[Node],
+    left: Fuel,
+) -> Result<Answer, OpFault>
+    requires known { AreKnown trees.old operands.now }
+    requires fits { length trees.old + length operands.now + left.pairs + left.bytes < 2 ^ 31 }
+    ensures { Answers trees.old trees.new (length operands.now) left (applied (code ∷ []) (trees_at trees.old operands.now)) result }
+{
+    macro_rules! arm {
+        ($code:literal, $name:literal, quote) => {
+            Err(OpFault::NoOperator)
+        };
+        ($code:literal, $name:literal, apply) => {
+            Err(OpFault::NoOperator)
+        };
+        ($code:literal, $name:literal, $operator:ident) => {
+            $operator(alloc, trees, operands, left)
+        };
+    }
+    by_operator!(code, arm, Err(OpFault::NoOperator))
+}

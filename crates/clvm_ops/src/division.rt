@@ -1,0 +1,101 @@
+//! `divmod`.
+
+ghost use Rattle.std.specs.Prelude.{◌≡◌, ℕ, ◌+◌, ◌<◌, ◌≤◌, ◌^◌, false, length, IfOk};
+ghost use Rattle.clvm_spec.specs.Tree.{Atom, Pair};
+ghost use Rattle.clvm_spec.specs.Numbers.{shortest_atom};
+ghost use Rattle.clvm_spec.specs.Arithmetic.{is_zero, quotient, remainder};
+ghost use Rattle.clvm_spec.specs.Operators.{pair_of_atoms, pair_of_numbers, quotient_and_remainder};
+ghost use Rattle.clvm_tree.specs.Nodes.{tree_at, IsKnown, AreKnown, Grows};
+ghost use Rattle.clvm_tree.specs.Operators.{trees_at};
+ghost use Rattle.clvm_ops.specs.Answering.{Answers};
+
+use crate::arithmetic::remainder_of;
+use crate::digits::number;
+use crate::folds::number_length;
+use crate::give::charged;
+use crate::operands::two_numbers;
+use clvm_spec::arithmetic;
+use clvm_tree::{Answer, Fuel, Node, OpFault, OutOfMemory, Trees};
+use std::alloc::Global;
+
+pub(crate) fn quotient_and_remainder(
+    alloc: Global,
+    trees: &mut Trees,
+    operands: &[Node],
+    left: Fuel,
+) -> Result<Answer, OpFault>
+    requires known { AreKnown trees.old operands.now }
+    requires fits { length trees.old + length operands.now + left.pairs + left.bytes < 2 ^ 31 }
+    ensures { Answers trees.old trees.new (length operands.now) left (quotient_and_remainder (trees_at trees.old operands.now)) result }
+{
+    let (first, second) = two_numbers(trees, operands)?;
+    let cost = 1116 + 6 * (first.len() + second.len()) as u128;
+    let divisor = number(second);
+    if divisor == 0 {
+        return Err(OpFault::ZeroDivisor);
+    }
+    let number = number(first);
+    give_division(alloc, trees, number, divisor, cost, left)
+}
+
+// Answers the pair of quotient and remainder.
+fn give_division(
+    alloc: Global,
+    trees: &mut Trees,
+    number: i128,
+    divisor: i128,
+    cost: u128,
+    left: Fuel,
+) -> Result<Answer, OpFault>
+    requires divisor { is_zero divisor ≡ false }
+    requires cost { cost < 2 ^ 127 }
+    requires fits { length trees.old + left.pairs + left.bytes < 2 ^ 31 }
+    ensures { (operands : ℕ) → Answers trees.old trees.new operands left
+        (pair_of_numbers cost (quotient number divisor) (remainder number divisor)) result }
+{
+    match arithmetic::quotient_of(number, divisor) {
+        Some(quotient) => {
+            let remainder = remainder_of(number, divisor);
+            give_two(alloc, trees, quotient, remainder, cost, left)
+        }
+        None => Err(OpFault::Wide),
+    }
+}
+
+// Answers the pair of two numbers' atoms. Each of their bytes costs 10 more.
+fn give_two(
+    alloc: Global,
+    trees: &mut Trees,
+    first: i128,
+    second: i128,
+    cost: u128,
+    left: Fuel,
+) -> Result<Answer, OpFault>
+    requires cost { cost < 2 ^ 127 }
+    requires fits { length trees.old + left.pairs + left.bytes < 2 ^ 31 }
+    ensures { (operands : ℕ) → Answers trees.old trees.new operands left
+        (pair_of_atoms cost (shortest_atom first) (shortest_atom second)) result }
+{
+    let size = (number_length(first) + number_length(second)) as u128;
+    let charge = charged(left, cost + 10 * size, 1, size + 16)?;
+    let pair = pair_of_two(alloc, trees, first, second)?;
+    Ok(charge.answer(pair))
+}
+
+// The pair of two numbers' atoms.
+fn pair_of_two(
+    alloc: Global,
+    trees: &mut Trees,
+    first: i128,
+    second: i128,
+) -> Result<Node, OutOfMemory>
+    requires { length trees.old + 3 < 2 ^ 31 }
+    ensures grows { Grows trees.old trees.new }
+    ensures few { length trees.new ≤ length trees.old + 3 }
+    ensures known { IfOk result (λ pair. IsKnown trees.new pair.0) }
+    ensures pair { IfOk result (λ pair. tree_at trees.new pair.0 ≡ Pair (Atom (shortest_atom first)) (Atom (shortest_atom second))) }
+{
+    let first = trees.put_number(alloc, first)?;
+    let second = trees.put_number(alloc, second)?;
+    trees.pair(alloc, first, second)
+}

@@ -1,0 +1,172 @@
+//! What is calculated of any count of numbers from the left.
+
+ghost use Rattle.std.specs.Prelude.{◌≡◌, ◌<◌, ◌≤◌, ◌^◌, ◌+ℤ◌, ◌-ℤ◌, true, length, fold, IfSome};
+ghost use Rattle.std.specs.List.{All};
+ghost use Rattle.clvm_spec.specs.Numbers.{number, shortest_atom};
+ghost use Rattle.clvm_spec.specs.Operators.{factor_cost};
+ghost use Rattle.clvm_tree.specs.Nodes.{tree_at, IsKnown, AreKnown};
+ghost use Rattle.clvm_ops.specs.OperandAtoms.{bytes_of, atoms_at, is_short};
+ghost use Rattle.clvm_ops.specs.Folds.{numbers_at, held_from_left, held_difference, held_times, held_product, bit_step, bit_none};
+
+use crate::digits::number;
+use crate::operands::bytes_of;
+use clvm_spec::shortest_bytes;
+use clvm_tree::{Node, Trees};
+
+// The number of an operand that was read as one.
+fn number_of(trees: &Trees, operand: Node) -> i128
+    requires known { IsKnown trees.now operand.0 }
+    requires short { length (bytes_of (tree_at trees.now operand.0)) ≤ 16 }
+    ensures { result ≡ number (bytes_of (tree_at trees.now operand.0)) }
+{
+    number(bytes_of(trees, operand))
+}
+
+/// The number and the others in a sum, None where 128 bits don't hold it or a partial sum.
+pub(crate) fn plus_others(trees: &Trees, first: i128, others: &[Node]) -> Option<i128>
+    requires known { AreKnown trees.now others.now }
+    requires short { All (λ bytes. is_short bytes ≡ true) (atoms_at trees.now others.now) }
+    ensures { result ≡ held_from_left ◌+ℤ◌ first (numbers_at trees.now others.now) }
+{
+    let mut sum = first;
+    for other in others {
+        sum = sum.checked_add(number_of(trees, *other))?;
+    }
+    Some(sum)
+}
+
+/// The first less the others, 0 for none; None where 128 bits don't hold it or a partial difference.
+pub(crate) fn difference(trees: &Trees, operands: &[Node]) -> Option<i128>
+    requires known { AreKnown trees.now operands.now }
+    requires short { All (λ bytes. is_short bytes ≡ true) (atoms_at trees.now operands.now) }
+    ensures { result ≡ held_difference (numbers_at trees.now operands.now) }
+{
+    match operands {
+        [] => Some(0),
+        [first, others @ ..] => less_others(trees, number_of(trees, *first), others),
+    }
+}
+
+// The number less the others, None where 128 bits don't hold it or a partial difference.
+fn less_others(trees: &Trees, first: i128, others: &[Node]) -> Option<i128>
+    requires known { AreKnown trees.now others.now }
+    requires short { All (λ bytes. is_short bytes ≡ true) (atoms_at trees.now others.now) }
+    ensures { result ≡ held_from_left ◌-ℤ◌ first (numbers_at trees.now others.now) }
+{
+    let mut difference = first;
+    for other in others {
+        difference = difference.checked_sub(number_of(trees, *other))?;
+    }
+    Some(difference)
+}
+
+/// A product and what it costs.
+#[derive(Clone, Copy, Debug)]
+pub(crate) struct Product {
+    pub(crate) number: i128,
+    pub(crate) cost: u128,
+}
+
+/// How bits are joined.
+#[derive(Clone, Copy, Debug)]
+pub(crate) enum BitStep {
+    And,
+    Or,
+    Xor,
+}
+
+impl BitStep {
+    /// Joins two numbers bit by bit.
+    fn join(self, a: i128, b: i128) -> i128
+        ensures { result ≡ bit_step self a b }
+    {
+        match self {
+            BitStep::And => a & b,
+            BitStep::Or => a | b,
+            BitStep::Xor => a ^ b,
+        }
+    }
+
+    /// What no numbers give.
+    fn none(self) -> i128
+        ensures { result ≡ bit_none self }
+    {
+        match self {
+            BitStep::And => -1,
+            BitStep::Or => 0,
+            BitStep::Xor => 0,
+        }
+    }
+
+    /// The bits of all operands, joined.
+    pub(crate) fn of_all(self, trees: &Trees, operands: &[Node]) -> i128
+        requires known { AreKnown trees.now operands.now }
+        requires short { All (λ bytes. is_short bytes ≡ true) (atoms_at trees.now operands.now) }
+        ensures { result ≡ fold (bit_step self) (bit_none self) (numbers_at trees.now operands.now) }
+    {
+        let mut bits = self.none();
+        for operand in operands {
+            bits = self.join(bits, number_of(trees, *operand));
+        }
+        bits
+    }
+}
+
+/// How many bytes the shortest atom of a number has.
+pub(crate) fn number_length(number: i128) -> usize
+    ensures length { result ≡ length (shortest_atom number) }
+    ensures few { result ≤ 16 }
+{
+    shortest_bytes(&number.to_be_bytes()).len()
+}
+
+// What a factor costs, beside a product of that size.
+fn factor_cost(size: usize, other: usize) -> u128
+    requires size { size ≤ 16 }
+    requires other { other ≤ 16 }
+    ensures cost { result ≡ factor_cost size other }
+    ensures few { result ≤ 2000 }
+{
+    (885 + 6 * (size + other) + size * other / 128) as u128
+}
+
+// The number times the others, None where 128 bits don't hold it or a partial product. Each factor costs by its length and
+// that of the product so far.
+fn times_others(trees: &Trees, first: i128, size: usize, others: &[Node]) -> Option<Product>
+    requires size { size ≤ 16 }
+    requires few { length others.now < 2 ^ 31 }
+    requires known { AreKnown trees.now others.now }
+    requires short { All (λ bytes. is_short bytes ≡ true) (atoms_at trees.now others.now) }
+    ensures product { result ≡ held_times 92 size first (atoms_at trees.now others.now) }
+    ensures cost { IfSome result (λ product. product.cost < 2 ^ 100) }
+{
+    let mut number = first;
+    let mut size = size;
+    let mut cost = 92;
+    for other in others {
+        cost += factor_cost(size, bytes_of(trees, *other).len());
+        number = number.checked_mul(number_of(trees, *other))?;
+        size = number_length(number);
+    }
+    Some(Product { number, cost })
+}
+
+/// The product, 1 for none, and its cost; None where 128 bits don't hold it or a partial product.
+pub(crate) fn whole_product(trees: &Trees, operands: &[Node]) -> Option<Product>
+    requires few { length operands.now < 2 ^ 31 }
+    requires known { AreKnown trees.now operands.now }
+    requires short { All (λ bytes. is_short bytes ≡ true) (atoms_at trees.now operands.now) }
+    ensures product { result ≡ held_product (atoms_at trees.now operands.now) }
+    ensures cost { IfSome result (λ product. product.cost < 2 ^ 100) }
+{
+    match operands {
+        [] => Some(Product {
+            number: 1,
+            cost: 92,
+        }),
+        [first, others @ ..] => {
+            let bytes = bytes_of(trees, *first);
+            times_others(trees, number(bytes), bytes.len(), others)
+        }
+    }
+}

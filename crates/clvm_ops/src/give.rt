@@ -1,0 +1,131 @@
+//! How a value becomes an answer: what is left has to suffice for it, the cost first, then the pairs, then the bytes.
+
+ghost use Rattle.std.specs.Prelude.{◌≡◌, ℕ, ◌+◌, ◌<◌, ◌≤◌, ◌^◌, List, length, IfOk, IfErr};
+ghost use Rattle.clvm_spec.specs.Tree.{Tree};
+ghost use Rattle.clvm_spec.specs.Operators.{free, flag, new_atom, new_number};
+ghost use Rattle.clvm_spec.specs.OperatorTable.{within_cost};
+ghost use Rattle.clvm_tree.specs.Nodes.{tree_at, IsKnown};
+ghost use Rattle.clvm_tree.specs.Operators.{IsOpFault};
+ghost use Rattle.clvm_ops.specs.Answering.{Answers, IsCharged, number_or_wide};
+
+use clvm_spec::shortest_bytes;
+use clvm_tree::{Answer, Fuel, Node, OpFault, Trees, Which};
+use std::alloc::Global;
+
+/// What an answer is charged.
+#[derive(Clone, Copy, Debug)]
+pub(crate) struct Charge {
+    pub(crate) cost: u64,
+    pub(crate) pairs: u64,
+    pub(crate) bytes: u64,
+}
+
+impl Charge {
+    pub(crate) fn answer(self, value: Node) -> Answer
+        ensures { result ≡ record { value = value; cost = self.cost; pairs = self.pairs; bytes = self.bytes } }
+    {
+        Answer {
+            value,
+            cost: self.cost,
+            pairs: self.pairs,
+            bytes: self.bytes,
+        }
+    }
+}
+
+/// The charge where what is left suffices for it, else what is spent.
+pub(crate) fn charged(left: Fuel, cost: u128, pairs: u64, bytes: u128) -> Result<Charge, OpFault>
+    ensures ok { IfOk result (IsCharged left cost pairs bytes) }
+    ensures err { IfErr result (λ fault. (trees : List Tree) (value : Tree) →
+        IsOpFault trees (within_cost left value cost pairs bytes) fault) }
+{
+    if cost > left.cost as u128 {
+        return Err(OpFault::Spent(Which::Cost));
+    }
+    if pairs > left.pairs {
+        return Err(OpFault::Spent(Which::Pairs));
+    }
+    if bytes > left.bytes as u128 {
+        return Err(OpFault::Spent(Which::Bytes));
+    }
+    Ok(Charge {
+        cost: cost as u64,
+        pairs,
+        bytes: bytes as u64,
+    })
+}
+
+/// Answers a node that is there already.
+pub(crate) fn give(trees: &Trees, value: Node, cost: u128, left: Fuel) -> Result<Answer, OpFault>
+    requires { IsKnown trees.now value.0 }
+    ensures { (operands : ℕ) → Answers trees.now trees.now operands left (free (tree_at trees.now value.0) cost) result }
+{
+    let _ = trees.nil();
+    Ok(charged(left, cost, 0, 0)?.answer(value))
+}
+
+/// Answers the atom 01 or nil.
+pub(crate) fn give_flag(
+    trees: &Trees,
+    holds: bool,
+    cost: u128,
+    left: Fuel,
+) -> Result<Answer, OpFault>
+    ensures { (operands : ℕ) → Answers trees.now trees.now operands left (free (flag holds) cost) result }
+{
+    if holds {
+        give(trees, trees.one(), cost, left)
+    } else {
+        give(trees, trees.nil(), cost, left)
+    }
+}
+
+/// Answers a new atom of these bytes.
+pub(crate) fn give_atom(
+    alloc: Global,
+    trees: &mut Trees,
+    bytes: &[u8],
+    cost: u128,
+    left: Fuel,
+) -> Result<Answer, OpFault>
+    requires { length trees.old + left.pairs + left.bytes < 2 ^ 31 }
+    ensures { (operands : ℕ) → Answers trees.old trees.new operands left (new_atom cost bytes.now) result }
+{
+    let charge = charged(left, cost, 0, bytes.len() as u128 + 8)?;
+    Ok(charge.answer(trees.atom(alloc, bytes)?))
+}
+
+/// Answers the shortest atom of a number. Each of its bytes costs 10 more.
+pub(crate) fn give_number(
+    alloc: Global,
+    trees: &mut Trees,
+    number: i128,
+    cost: u128,
+    left: Fuel,
+) -> Result<Answer, OpFault>
+    requires fits { length trees.old + left.pairs + left.bytes < 2 ^ 31 }
+    requires cost { cost < 2 ^ 127 }
+    ensures { (operands : ℕ) → Answers trees.old trees.new operands left (new_number cost number) result }
+{
+    let bytes = number.to_be_bytes();
+    let atom = shortest_bytes(&bytes);
+    give_atom(alloc, trees, atom, cost + 10 * atom.len() as u128, left)
+}
+
+/// The same of a number that 128 bits may not hold.
+pub(crate) fn give_if_held(
+    alloc: Global,
+    trees: &mut Trees,
+    number: Option<i128>,
+    cost: u128,
+    left: Fuel,
+) -> Result<Answer, OpFault>
+    requires fits { length trees.old + left.pairs + left.bytes < 2 ^ 31 }
+    requires cost { cost < 2 ^ 127 }
+    ensures { (operands : ℕ) → Answers trees.old trees.new operands left (number_or_wide cost number) result }
+{
+    match number {
+        Some(number) => give_number(alloc, trees, number, cost, left),
+        None => Err(OpFault::Wide),
+    }
+}

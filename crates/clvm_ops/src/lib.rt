@@ -1,0 +1,21 @@
+//! The operators of CLVM on trees in an arena.
+#![tactic(auto)]
+
+mod arithmetic;
+mod core_ops;
+mod digits;
+mod division;
+mod folds;
+mod give;
+mod on_atoms;
+mod on_numbers;
+mod on_trees;
+mod operands;
+mod parts;
+mod shifts;
+mod truth;
+
+pub use core_ops::CoreOps;
+
+#[cfg(test)]
+mod tests;

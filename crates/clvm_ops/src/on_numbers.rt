@@ -1,0 +1,193 @@
+//! Operators on numbers.
+
+ghost use Rattle.std.specs.Prelude.{◌≡◌, ◌+◌, ◌<◌, ◌≤◌, ◌^◌, negsuc, ◌-ℤ◌, int_lt, length};
+ghost use Rattle.clvm_spec.specs.Numbers.{number};
+ghost use Rattle.clvm_spec.specs.Operators.{sum_of, difference_of, product_of, quotient_of, greater_flag, complement_of, bits_of, and_of, or_of, xor_of};
+ghost use Rattle.clvm_tree.specs.Nodes.{AreKnown};
+ghost use Rattle.clvm_tree.specs.Operators.{trees_at};
+ghost use Rattle.clvm_ops.specs.Answering.{Answers};
+ghost use Rattle.clvm_ops.specs.Folds.{bit_step, bit_none};
+
+use crate::digits::number;
+use crate::folds::{BitStep, difference, plus_others, whole_product};
+use crate::give::{give_flag, give_if_held, give_number};
+use crate::operands::{number_at, numbers, two_numbers};
+use clvm_spec::arithmetic;
+use clvm_tree::{Answer, Fuel, Node, OpFault, Trees};
+use std::alloc::Global;
+
+pub(crate) fn sum_of(
+    alloc: Global,
+    trees: &mut Trees,
+    operands: &[Node],
+    left: Fuel,
+) -> Result<Answer, OpFault>
+    requires known { AreKnown trees.old operands.now }
+    requires fits { length trees.old + length operands.now + left.pairs + left.bytes < 2 ^ 31 }
+    ensures { Answers trees.old trees.new (length operands.now) left (sum_of (trees_at trees.old operands.now)) result }
+{
+    let size = numbers(trees, operands)?;
+    let cost = 99 + 320 * operands.len() as u128 + 3 * size;
+    let sum = plus_others(trees, 0, operands);
+    give_if_held(alloc, trees, sum, cost, left)
+}
+
+pub(crate) fn difference_of(
+    alloc: Global,
+    trees: &mut Trees,
+    operands: &[Node],
+    left: Fuel,
+) -> Result<Answer, OpFault>
+    requires known { AreKnown trees.old operands.now }
+    requires fits { length trees.old + length operands.now + left.pairs + left.bytes < 2 ^ 31 }
+    ensures { Answers trees.old trees.new (length operands.now) left (difference_of (trees_at trees.old operands.now)) result }
+{
+    let size = numbers(trees, operands)?;
+    let cost = 99 + 320 * operands.len() as u128 + 3 * size;
+    let difference = difference(trees, operands);
+    give_if_held(alloc, trees, difference, cost, left)
+}
+
+pub(crate) fn product_of(
+    alloc: Global,
+    trees: &mut Trees,
+    operands: &[Node],
+    left: Fuel,
+) -> Result<Answer, OpFault>
+    requires known { AreKnown trees.old operands.now }
+    requires fits { length trees.old + length operands.now + left.pairs + left.bytes < 2 ^ 31 }
+    ensures { Answers trees.old trees.new (length operands.now) left (product_of (trees_at trees.old operands.now)) result }
+{
+    numbers(trees, operands)?;
+    match whole_product(trees, operands) {
+        Some(product) => give_number(alloc, trees, product.number, product.cost, left),
+        None => Err(OpFault::Wide),
+    }
+}
+
+pub(crate) fn quotient_of(
+    alloc: Global,
+    trees: &mut Trees,
+    operands: &[Node],
+    left: Fuel,
+) -> Result<Answer, OpFault>
+    requires known { AreKnown trees.old operands.now }
+    requires fits { length trees.old + length operands.now + left.pairs + left.bytes < 2 ^ 31 }
+    ensures { Answers trees.old trees.new (length operands.now) left (quotient_of (trees_at trees.old operands.now)) result }
+{
+    let (first, second) = two_numbers(trees, operands)?;
+    let cost = 988 + 4 * (first.len() + second.len()) as u128;
+    let divisor = number(second);
+    if divisor == 0 {
+        return Err(OpFault::ZeroDivisor);
+    }
+    let quotient = arithmetic::quotient_of(number(first), divisor);
+    give_if_held(alloc, trees, quotient, cost, left)
+}
+
+pub(crate) fn greater_flag(
+    _alloc: Global,
+    trees: &Trees,
+    operands: &[Node],
+    left: Fuel,
+) -> Result<Answer, OpFault>
+    requires { AreKnown trees.now operands.now }
+    ensures { Answers trees.now trees.now (length operands.now) left (greater_flag (trees_at trees.now operands.now)) result }
+{
+    let (first, second) = two_numbers(trees, operands)?;
+    let cost = 498 + 2 * (first.len() + second.len()) as u128;
+    give_flag(trees, is_greater(first, second), cost, left)
+}
+
+// Whether the first number is larger.
+fn is_greater(first: &[u8], second: &[u8]) -> bool
+    requires first { length first.now ≤ 16 }
+    requires second { length second.now ≤ 16 }
+    ensures { result ≡ int_lt (number second.now) (number first.now) }
+{
+    number(first) > number(second)
+}
+
+pub(crate) fn complement_of(
+    alloc: Global,
+    trees: &mut Trees,
+    operands: &[Node],
+    left: Fuel,
+) -> Result<Answer, OpFault>
+    requires known { AreKnown trees.old operands.now }
+    requires fits { length trees.old + length operands.now + left.pairs + left.bytes < 2 ^ 31 }
+    ensures { Answers trees.old trees.new (length operands.now) left (complement_of (trees_at trees.old operands.now)) result }
+{
+    let [operand] = operands else {
+        return Err(OpFault::Count);
+    };
+    let bytes = number_at(trees, 0, *operand)?;
+    let cost = 331 + 3 * bytes.len() as u128;
+    let complement = complement(bytes);
+    give_number(alloc, trees, complement, cost, left)
+}
+
+// -1 less the number.
+fn complement(bytes: &[u8]) -> i128
+    requires { length bytes.now ≤ 16 }
+    ensures { result ≡ negsuc 0 -ℤ number bytes.now }
+{
+    -1 - number(bytes)
+}
+
+pub(crate) fn and_of(
+    alloc: Global,
+    trees: &mut Trees,
+    operands: &[Node],
+    left: Fuel,
+) -> Result<Answer, OpFault>
+    requires known { AreKnown trees.old operands.now }
+    requires fits { length trees.old + length operands.now + left.pairs + left.bytes < 2 ^ 31 }
+    ensures { Answers trees.old trees.new (length operands.now) left (and_of (trees_at trees.old operands.now)) result }
+{
+    bits_of(alloc, trees, operands, BitStep::And, left)
+}
+
+pub(crate) fn or_of(
+    alloc: Global,
+    trees: &mut Trees,
+    operands: &[Node],
+    left: Fuel,
+) -> Result<Answer, OpFault>
+    requires known { AreKnown trees.old operands.now }
+    requires fits { length trees.old + length operands.now + left.pairs + left.bytes < 2 ^ 31 }
+    ensures { Answers trees.old trees.new (length operands.now) left (or_of (trees_at trees.old operands.now)) result }
+{
+    bits_of(alloc, trees, operands, BitStep::Or, left)
+}
+
+pub(crate) fn xor_of(
+    alloc: Global,
+    trees: &mut Trees,
+    operands: &[Node],
+    left: Fuel,
+) -> Result<Answer, OpFault>
+    requires known { AreKnown trees.old operands.now }
+    requires fits { length trees.old + length operands.now + left.pairs + left.bytes < 2 ^ 31 }
+    ensures { Answers trees.old trees.new (length operands.now) left (xor_of (trees_at trees.old operands.now)) result }
+{
+    bits_of(alloc, trees, operands, BitStep::Xor, left)
+}
+
+fn bits_of(
+    alloc: Global,
+    trees: &mut Trees,
+    operands: &[Node],
+    step: BitStep,
+    left: Fuel,
+) -> Result<Answer, OpFault>
+    requires known { AreKnown trees.old operands.now }
+    requires fits { length trees.old + length operands.now + left.pairs + left.bytes < 2 ^ 31 }
+    ensures { Answers trees.old trees.new (length operands.now) left
+        (bits_of (bit_step step) (bit_none step) (trees_at trees.old operands.now)) result }
+{
+    let size = numbers(trees, operands)?;
+    let cost = 100 + 264 * operands.len() as u128 + 3 * size;
+    let bits = step.of_all(trees, operands);
+    give_number(alloc, trees, bits, cost, left)
+}

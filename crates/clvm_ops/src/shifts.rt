@@ -1,0 +1,79 @@
+//! Shifts.
+
+ghost use Rattle.std.specs.Prelude.{◌≡◌, ℕ, ◌+◌, ◌<◌, ◌≤◌, ◌^◌, length};
+ghost use Rattle.clvm_spec.specs.Operators.{shift_of_number, shift_of_bits};
+ghost use Rattle.clvm_tree.specs.Nodes.{AreKnown};
+ghost use Rattle.clvm_tree.specs.Operators.{trees_at};
+ghost use Rattle.clvm_ops.specs.Answering.{Answers, shifted_or_wide};
+
+use crate::arithmetic::{bits_shifted, shifted};
+use crate::digits::{number, unsigned};
+use crate::folds::number_length;
+use crate::give::give_number;
+use crate::operands::two_numbers;
+use clvm_spec::arithmetic::is_shift_amount;
+use clvm_tree::{Answer, Fuel, Node, OpFault, Trees};
+use std::alloc::Global;
+
+pub(crate) fn shift_of_number(
+    alloc: Global,
+    trees: &mut Trees,
+    operands: &[Node],
+    left: Fuel,
+) -> Result<Answer, OpFault>
+    requires known { AreKnown trees.old operands.now }
+    requires fits { length trees.old + length operands.now + left.pairs + left.bytes < 2 ^ 31 }
+    ensures { Answers trees.old trees.new (length operands.now) left (shift_of_number (trees_at trees.old operands.now)) result }
+{
+    let (value, by) = two_numbers(trees, operands)?;
+    let size = value.len();
+    let by = number(by);
+    if !is_shift_amount(by) {
+        return Err(OpFault::Shift);
+    }
+    let shifted = shifted(number(value), by);
+    give_shifted(alloc, trees, shifted, size, 596, left)
+}
+
+pub(crate) fn shift_of_bits(
+    alloc: Global,
+    trees: &mut Trees,
+    operands: &[Node],
+    left: Fuel,
+) -> Result<Answer, OpFault>
+    requires known { AreKnown trees.old operands.now }
+    requires fits { length trees.old + length operands.now + left.pairs + left.bytes < 2 ^ 31 }
+    ensures { Answers trees.old trees.new (length operands.now) left (shift_of_bits (trees_at trees.old operands.now)) result }
+{
+    let (value, by) = two_numbers(trees, operands)?;
+    let size = value.len();
+    let by = number(by);
+    if !is_shift_amount(by) {
+        return Err(OpFault::Shift);
+    }
+    let shifted = bits_shifted(unsigned(value), by);
+    give_shifted(alloc, trees, shifted, size, 277, left)
+}
+
+// Answers a shifted number where there is one. The value's size and its own cost 3 for each byte, whatever the shift's is.
+fn give_shifted(
+    alloc: Global,
+    trees: &mut Trees,
+    number: Option<i128>,
+    size: usize,
+    cost: u128,
+    left: Fuel,
+) -> Result<Answer, OpFault>
+    requires size { size ≤ 16 }
+    requires cost { cost < 2 ^ 100 }
+    requires fits { length trees.old + left.pairs + left.bytes < 2 ^ 31 }
+    ensures { (operands : ℕ) → Answers trees.old trees.new operands left (shifted_or_wide cost size number) result }
+{
+    match number {
+        Some(number) => {
+            let cost = cost + 3 * (size + number_length(number)) as u128;
+            give_number(alloc, trees, number, cost, left)
+        }
+        None => Err(OpFault::Wide),
+    }
+}

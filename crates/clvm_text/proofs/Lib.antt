@@ -1,0 +1,6 @@
+pub mod PrintLaws
+pub mod WordLaws
+pub mod FrameLaws
+pub mod StepLaws
+pub mod NameLaws
+pub mod ScanningLaws

@@ -1,0 +1,16 @@
+use Rattle.std.proofs.Common.{drop, ◌∙◌, ap}
+use Rattle.clvm_spec.specs.declared.scan_kind.ScanKind.TheVariants as kind
+use Rattle.clvm_spec.specs.Tokens.{Took, Unread, AtEnd, token_of}
+use Rattle.clvm_spec.specs.Tokens as tokens
+use Rattle.clvm_text.specs.Frames.{at_token, dot_of, first_dot, fault_behind}
+use Rattle.clvm_text.proofs.StepLaws.{stops_at, no_end}
+use Rattle.clvm_text.proofs.frames.close.Goals as goal
+
+pub returns-in-None-clause-stops : goal.returns-in-None-clause-stops
+returns-in-None-clause-stops c = λ text rest there.
+    let m = c.args.mode in
+    let place = c.args.place in
+    let trees = c.args.trees.now in
+    stops_at trees text c.args.frames.now.items m kind.Close place c.fault.result (at_token trees text m (Took tokens.Closing (drop place text) rest)) c.requires.dots c.requires.dot
+    (c.fault.ensures ∙ ap (λ f. fault_behind (first_dot f (dot_of m)) kind.Close place) c.as_slice.ensures.value)
+    (no_end trees text m (drop place text) rest c.in-None.ensures)

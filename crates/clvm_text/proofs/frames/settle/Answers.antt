@@ -1,0 +1,110 @@
+use Rattle.std.proofs.Common.{[], ◌∷◌, ◌++◌, length, true, sym, ◌∙◌, ap, subst, arith}
+use Rattle.clvm_spec.specs.Tokens.{token_of}
+use Rattle.clvm_spec.specs.Text.{Parses, list_at}
+use Rattle.clvm_spec.specs.TextLaws.{list_from}
+use Rattle.clvm_spec.proofs.ScanLaws.{list_step}
+use Rattle.clvm_tree.specs.Nodes.{tree_at}
+use Rattle.clvm_tree.proofs.NodeLaws.{grows_on}
+use Rattle.clvm_text.specs.declared.frames.Frame.TheVariants.{Whole, Inner, Element, Dot}
+use Rattle.clvm_text.specs.Frames.{framed, resumed, AreBegun, AreDotsWithin, elements}
+use Rattle.clvm_text.proofs.FrameLaws.{resumed-push, resumed-grows, AreBegun-grows, AreBegun-push, AreBegun-init, AreDots-push, AreDots-init, elements-push}
+use Rattle.clvm_text.proofs.frames.settle.Goals as goal
+
+pub pair-requires-clause-fits : goal.pair-requires-clause-fits
+pair-requires-clause-fits c =
+    let items = c.in-Some.ensures.items ∙ ap (λ f. c.pop.new.self.items ++ f ∷ []) c.in-Element.is in
+    omega (arith, ap elements items, elements-push c.pop.new.self.items (Element c.in-Element.first), c.frames.invariant.count, c.requires.fits)
+
+pub pair-requires-clause-first_known : goal.pair-requires-clause-first_known
+pair-requires-clause-first_known c =
+    let popped = c.pop.new.self.items in
+    let items = c.in-Some.ensures.items ∙ ap (λ f. popped ++ f ∷ []) c.in-Element.is in
+    (AreBegun-init c.frames.trees popped (Element c.in-Element.first) (subst (AreBegun c.frames.trees) items c.frames.invariant.begun)).1
+
+pub returns-in_err-whole-in-Element-clause-few : goal.returns-in_err-whole-in-Element-clause-few
+returns-in_err-whole-in-Element-clause-few c =
+    let items = c.in-Some.ensures.items ∙ ap (λ f. c.pop.new.self.items ++ f ∷ []) c.in-Element.is in
+    omega (arith, ap elements items, elements-push c.pop.new.self.items (Element c.in-Element.first), c.frames.invariant.count, ap length c.in_err-whole-in-Element.ensures.out_of_memory)
+
+pub frames-preserved-in-Element : goal.frames-preserved-in-Element
+frames-preserved-in-Element c =
+    let trees = c.frames.trees in
+    let new = c.pair.new.self in
+    let popped = c.pop.new.self.items in
+    let first = c.in-Element.first in
+    let whole = c.in_ok-whole-in-Element.whole in
+    let adds = c.in_ok-whole-in-Element.ensures.ok in
+    let items = c.in-Some.ensures.items ∙ ap (λ f. popped ++ f ∷ []) c.in-Element.is in
+    let known = AreBegun-init trees popped (Element first) (subst (AreBegun trees) items c.frames.invariant.begun) in
+    record {
+      grows = grows_on c.args.trees.now trees new c.frames.invariant.grows adds.grows;
+      count = omega (arith, adds.few, ap elements items, elements-push popped (Element first), c.frames.invariant.count);
+      known = adds.known;
+      begun = AreBegun-grows trees new popped adds.grows known.0;
+      dots = λ limit h. (AreDots-init limit popped (Element first) (subst (AreDotsWithin limit) items (c.frames.invariant.dots limit h))).0;
+      same = λ text rest.
+          c.frames.invariant.same text rest ∙ ap (λ f. resumed trees text f (Parses (tree_at trees c.frames.whole.0) rest)) items
+          ∙ resumed-push trees text popped (Element first) (Parses (tree_at trees c.frames.whole.0) rest)
+          ∙ ap (λ t. resumed trees text popped (Parses t rest)) (sym adds.stands)
+          ∙ sym (resumed-grows trees new text popped (Parses (tree_at new whole.0) rest) adds.grows known.0);
+    }
+
+pub frames-preserved : goal.frames-preserved
+frames-preserved c =
+    let trees = c.frames.trees in
+    let popped = c.pop.new.self.items in
+    let items = c.in-Some.ensures.items ∙ ap (λ f. popped ++ f ∷ []) c.in-Whole.is in
+    record {
+      grows = c.frames.invariant.grows;
+      count = omega (arith, ap elements items, elements-push popped Whole, c.frames.invariant.count);
+      known = c.frames.invariant.known;
+      begun = (AreBegun-init trees popped Whole (subst (AreBegun trees) items c.frames.invariant.begun)).0;
+      dots = λ limit h. (AreDots-init limit popped Whole (subst (AreDotsWithin limit) items (c.frames.invariant.dots limit h))).0;
+      same = λ text rest.
+          c.frames.invariant.same text rest ∙ ap (λ f. resumed trees text f (Parses (tree_at trees c.frames.whole.0) rest)) items
+          ∙ resumed-push trees text popped Whole (Parses (tree_at trees c.frames.whole.0) rest);
+    }
+
+pub returns-in-Inner-clause-few : goal.returns-in-Inner-clause-few
+returns-in-Inner-clause-few c =
+    let popped = c.pop.new.self.items in
+    let items = c.in-Some.ensures.items ∙ ap (λ f. popped ++ f ∷ []) c.in-Inner.is in
+    omega (arith, ap elements items, elements-push popped (Inner c.in-Inner.depth), ap elements c.in_ok-push-in-Inner.ensures.items, elements-push popped (Element c.frames.whole), c.frames.invariant.count)
+
+pub returns-in-Inner-clause-settles : goal.returns-in-Inner-clause-settles
+returns-in-Inner-clause-settles c =
+    let trees = c.frames.trees in
+    let popped = c.pop.new.self.items in
+    let depth = c.in-Inner.depth in
+    let whole = c.frames.whole in
+    let items = c.in-Some.ensures.items ∙ ap (λ f. popped ++ f ∷ []) c.in-Inner.is in
+    let pushed = c.in_ok-push-in-Inner.ensures.items in
+    let known = AreBegun-init trees popped (Inner depth) (subst (AreBegun trees) items c.frames.invariant.begun) in (
+      record { begun = subst (AreBegun trees) (sym pushed) (AreBegun-push trees popped (Element whole) known.0 c.frames.invariant.known); known = tt },
+      λ limit h. (subst (AreDotsWithin limit) (sym pushed) (AreDots-push limit popped (Element whole) (AreDots-init limit popped (Inner depth) (subst (AreDotsWithin limit) items (c.frames.invariant.dots limit h))).0 tt), tt),
+      λ text rest.
+          c.frames.invariant.same text rest ∙ ap (λ f. resumed trees text f (Parses (tree_at trees whole.0) rest)) items
+          ∙ resumed-push trees text popped (Inner depth) (Parses (tree_at trees whole.0) rest)
+          ∙ ap (λ p. resumed trees text popped (framed trees text (Element whole) p)) (list_step depth true rest)
+          ∙ sym (resumed-push trees text popped (Element whole) (list_at list_from depth true (token_of rest)))
+          ∙ ap (λ f. resumed trees text f (list_at list_from depth true (token_of rest))) (sym pushed),
+    )
+
+pub returns-in-Dot-clause-few : goal.returns-in-Dot-clause-few
+returns-in-Dot-clause-few c =
+    let popped = c.pop.new.self.items in
+    let items = c.in-Some.ensures.items ∙ ap (λ f. popped ++ f ∷ []) c.in-Dot.is in
+    omega (arith, ap elements items, elements-push popped (Dot c.in-Dot.place), c.frames.invariant.count)
+
+pub returns-in-Dot-clause-settles : goal.returns-in-Dot-clause-settles
+returns-in-Dot-clause-settles c =
+    let trees = c.frames.trees in
+    let popped = c.pop.new.self.items in
+    let place = c.in-Dot.place in
+    let items = c.in-Some.ensures.items ∙ ap (λ f. popped ++ f ∷ []) c.in-Dot.is in (
+      record { begun = (AreBegun-init trees popped (Dot place) (subst (AreBegun trees) items c.frames.invariant.begun)).0; known = c.frames.invariant.known },
+      λ limit h. AreDots-init limit popped (Dot place) (subst (AreDotsWithin limit) items (c.frames.invariant.dots limit h)),
+      λ text rest.
+          c.frames.invariant.same text rest ∙ ap (λ f. resumed trees text f (Parses (tree_at trees c.frames.whole.0) rest)) items
+          ∙ resumed-push trees text popped (Dot place) (Parses (tree_at trees c.frames.whole.0) rest),
+    )

@@ -1,0 +1,21 @@
+use Rattle.std.proofs.Common.{◌≡◌, ℕ, ◌+◌, ◌-◌, ◌*◌, ◌≤◌, length, drop}
+use Rattle.clvm_spec.specs.Tokens.{token_of}
+use Rattle.clvm_spec.specs.Text.{form_of}
+use Rattle.clvm_tree.specs.Nodes.{Grows}
+use Rattle.clvm_text.specs.Frames.{told, AreBegun, IsMode, AreDotsWithin, IsDotWithin, elements}
+use Rattle.clvm_text.proofs.scanner.form.Given as goal
+
+abbrev pub invariant-tokens : goal.invariant-tokens
+invariant-tokens l = record {
+  grows : Grows l.fn.trees l.trees;
+  count : length l.trees + elements l.frames.items + 2 * length l.rest ≤ length l.fn.trees + 2 * length l.text;
+  begun : AreBegun l.trees l.frames.items;
+  known : IsMode l.trees l.mode;
+  suffix : (k : ℕ) × (l.rest ≡ drop k l.text);
+  dots : AreDotsWithin (length l.text - length l.rest) l.frames.items;
+  dot : IsDotWithin (length l.text - length l.rest) l.mode;
+  same : form_of l.text ≡ told l.trees l.text l.frames.items l.mode (token_of l.rest);
+}
+
+abbrev pub decreases-tokens : goal.decreases-tokens
+decreases-tokens l = length l.rest

@@ -1,0 +1,5 @@
+pub mod Positions
+pub mod Pieces
+pub mod Fronts
+pub mod Frames
+pub mod Scans

@@ -1,0 +1,37 @@
+-- What is to be printed of nodes.
+use Rattle.std.specs.Prelude.{ℕ, List, [], ◌∷◌, ◌++◌, codes}
+use Rattle.clvm_spec.specs.Tree.{Tree}
+use Rattle.clvm_spec.specs.Text as text
+use Rattle.clvm_tree.specs.Nodes.{tree_at, IsKnown}
+use Rattle.clvm_text.specs.declared.printer.Position.{Position}
+use Rattle.clvm_text.specs.declared.printer.Position.TheVariants.{Head, Alone, Rest}
+use Rattle.clvm_text.specs.declared.printer.Pending.{Pending}
+
+abbrev pub position_of : Position → text.Position
+position_of Head = text.AsHead
+position_of Alone = text.Alone
+position_of Rest = text.AsRest
+
+-- what a pair's text begins with there, and where its first stands
+abbrev pub opening : Position → List ℕ
+opening Head = codes "("
+opening Alone = codes "("
+opening Rest = codes " "
+
+abbrev pub first_of : Position → Position
+first_of Head = Head
+first_of Alone = Head
+first_of Rest = Alone
+
+-- the text of one that is pending
+abbrev pub text_of : List Tree → Pending → List ℕ
+text_of trees pending = text.text_at (position_of pending.position) (tree_at trees pending.node.0)
+
+-- the texts of those that are pending, the last of them first
+abbrev pub texts : List Tree → List Pending → List ℕ
+texts trees [] = []
+texts trees (pending ∷ above) = texts trees above ++ text_of trees pending
+
+abbrev pub AreKnown : List Tree → List Pending → Type 0
+AreKnown trees [] = Unit {0}
+AreKnown trees (pending ∷ above) = IsKnown trees pending.node.0 × AreKnown trees above

@@ -1,0 +1,337 @@
+//! How a text is read, token by token, with the lists that are open.
+
+ghost use Rattle.std.specs.Prelude.{◌≡◌, ◌+◌, ◌<◌, ◌≤◌, ◌^◌, List, length, Some, option_map, MatchOption, IfOk, IfErr, OnOk, OnErr};
+ghost use Rattle.clvm_spec.specs.Tree.{Tree};
+ghost use Rattle.clvm_spec.specs.OperatorTable.{operator_named};
+ghost use Rattle.clvm_tree.specs.Nodes.{tree_at, IsKnown, Grows, Adds};
+ghost use Rattle.clvm_text.specs.Pieces.{token_of_leaf, leaf_tree, HasDigits};
+ghost use Rattle.clvm_text.specs.Fronts.{HasPieceDigits, IsTaken};
+ghost use Rattle.clvm_text.specs.declared.tokens.Piece.TheVariants as piece;
+ghost use Rattle.clvm_text.specs.Frames.{AreBegun, IsMode, AreDotsWithin, IsDotWithin, elements, first_dot, dot_of, fault_behind, depth_in, list_frame, begun_in, IsForm, Ends, Settles, Places, Takes, Stops};
+
+use crate::TextFault;
+use crate::tokens::Piece;
+use crate::words::{Leaf, bytes_of};
+use case_table::code_of;
+use clvm_spec::ScanKind;
+use clvm_tree::{Node, OutOfMemory, Trees};
+use std::alloc::Global;
+
+/// What is begun: a list that is the form awaited, or one that is an element of a list at this depth; an element before
+/// what follows it in its list; a dot at its place.
+#[derive(Clone, Copy, Debug)]
+pub(crate) enum Frame {
+    Whole,
+    Inner(u32),
+    Element(Node),
+    Dot(u32),
+}
+
+/// What is awaited: a form at this depth; what stands in a list, whether behind an element; the end of a list, behind the
+/// dot at its place and the last form.
+#[derive(Clone, Copy, Debug)]
+pub(crate) enum Mode {
+    Form(u32),
+    List(u32, bool),
+    Close(Node, u32),
+}
+
+/// After a token: the whole form, or how it goes on.
+#[derive(Clone, Copy, Debug)]
+pub(crate) enum Step {
+    Done(Node),
+    Goes(Mode),
+}
+
+// The place of the outermost open dot.
+fn first_dot(frames: &[Frame], last: Option<u32>) -> Option<u32>
+    ensures { result ≡ first_dot frames.now last }
+{
+    let mut rest = frames;
+    'frames: while let [frame, above @ ..] = rest {
+        if let Frame::Dot(place) = frame {
+            return Some(*place);
+        }
+        rest = above;
+    }
+    last
+}
+
+fn dot_of(mode: Mode) -> Option<u32>
+    ensures { result ≡ dot_of mode }
+{
+    match mode {
+        Mode::Close(_, place) => Some(place),
+        _ => None,
+    }
+}
+
+// What is wrong behind an open dot is the dot's fault, but nesting too deep.
+fn fault_behind(dot: Option<u32>, kind: ScanKind, place: u32) -> TextFault
+    ensures { result ≡ fault_behind dot kind place }
+{
+    match (dot, kind) {
+        (Some(_), ScanKind::Deep) => TextFault::Read(ScanKind::Deep, place),
+        (Some(dot), _) => TextFault::Read(ScanKind::Dot, dot),
+        (None, _) => TextFault::Read(kind, place),
+    }
+}
+
+fn fault(frames: &[Frame], mode: Mode, kind: ScanKind, place: u32) -> TextFault
+    ensures { result ≡ fault_behind (first_dot frames.now (dot_of mode)) kind place }
+{
+    fault_behind(first_dot(frames, dot_of(mode)), kind, place)
+}
+
+/// The code of an operator's name.
+pub(crate) fn symbol_code(name: &[u8]) -> Option<u8>
+    ensures { result ≡ option_map (λ row. row.code) (operator_named name.now) }
+{
+    match std::str::from_utf8(name) {
+        Ok(name) => code_of(name),
+        Err(_) => None,
+    }
+}
+
+// The form of a token. A symbol that is no operator's name stands for nil.
+fn put(alloc: Global, trees: &mut Trees, leaf: Leaf<'_>) -> Result<Node, OutOfMemory>
+    requires fits { length trees.old + 1 < 2 ^ 31 }
+    requires digits { HasDigits leaf }
+    ensures ok { IfOk result (λ node. Adds trees.old trees.new node.0 (leaf_tree (token_of_leaf leaf.entry))) }
+    ensures out_of_memory { OnErr result (trees.new ≡ trees.old) }
+{
+    match leaf {
+        Leaf::Number(number) => trees.put_number(alloc, number),
+        Leaf::Digits(digits) => {
+            let bytes = bytes_of(alloc, digits)?;
+            trees.atom(alloc, bytes.as_slice())
+        }
+        Leaf::Quoted(bytes) => trees.atom(alloc, bytes),
+        Leaf::Symbol(name) => match symbol_code(name) {
+            Some(code) => trees.atom(alloc, &[code]),
+            None => Ok(trees.nil()),
+        },
+    }
+}
+
+// A form is read: what it ends is made, up to what goes on.
+fn settle(
+    alloc: Global,
+    trees: &mut Trees,
+    frames: &mut Vec<Frame>,
+    tree: Node,
+) -> Result<Step, OutOfMemory>
+    requires known { IsKnown trees.old tree.0 }
+    requires begun { AreBegun trees.old frames.old.items }
+    requires fits { length trees.old + elements frames.old.items < 2 ^ 31 }
+    ensures grows { Grows trees.old trees.new }
+    ensures few { length trees.new + elements frames.new.items ≤ length trees.old + elements frames.old.items + 1 }
+    ensures settles { IfOk result (Settles trees.old frames.old.items (tree_at trees.old tree.0) trees.new frames.new.items) }
+{
+    let mut whole = tree;
+    'frames: while let Some(frame) = frames.pop() {
+        match frame {
+            Frame::Element(first) => whole = trees.pair(alloc, first, whole)?,
+            Frame::Whole => {}
+            Frame::Inner(depth) => {
+                frames.push(Frame::Element(whole))?;
+                return Ok(Step::Goes(Mode::List(depth, true)));
+            }
+            Frame::Dot(place) => return Ok(Step::Goes(Mode::Close(whole, place))),
+        }
+    }
+    Ok(Step::Done(whole))
+}
+
+// The depth at which a list may be opened.
+fn depth_in(mode: Mode) -> Option<u32>
+    ensures { result ≡ depth_in mode }
+{
+    match mode {
+        Mode::Form(depth) => Some(depth),
+        Mode::List(depth, _) => Some(depth),
+        Mode::Close(_, _) => None,
+    }
+}
+
+// What a list is that is opened there.
+fn list_frame(mode: Mode) -> Frame
+    ensures { result ≡ list_frame mode }
+{
+    match mode {
+        Mode::List(depth, _) => Frame::Inner(depth),
+        _ => Frame::Whole,
+    }
+}
+
+// The depth at which a dot may stand.
+fn begun_in(mode: Mode) -> Option<u32>
+    ensures { result ≡ begun_in mode }
+{
+    match mode {
+        Mode::List(depth, begun) => { if begun { Some(depth) } else { None } }
+        _ => None,
+    }
+}
+
+// What a `)` ends: a list so far, or the form behind a dot.
+fn ended_in(trees: &Trees, mode: Mode) -> Option<Node>
+    requires { IsMode trees.now mode }
+    ensures { MatchOption result (IsForm mode) (λ tree. Ends trees.now mode tree.0) }
+{
+    match mode {
+        Mode::Form(_) => None,
+        Mode::List(_, _) => Some(trees.nil()),
+        Mode::Close(tree, _) => Some(tree),
+    }
+}
+
+// Behind `(` stands what is in a list.
+fn open(frames: &mut Vec<Frame>, mode: Mode, place: u32) -> Result<Step, TextFault>
+    ensures few { elements frames.new.items ≤ elements frames.old.items }
+    ensures takes { IfOk result (λ step. (trees : List Tree) → AreBegun trees frames.old.items → AreDotsWithin place frames.old.items → Takes trees frames.old.items mode place piece.Opening trees frames.new.items step) }
+    ensures stops { IfErr result (λ fault. (trees : List Tree) → AreDotsWithin place frames.old.items → IsDotWithin place mode → Stops trees frames.old.items mode place piece.Opening fault) }
+{
+    match depth_in(mode) {
+        Some(depth) => {
+            if depth >= 1024 {
+                return Err(fault(frames.as_slice(), mode, ScanKind::Deep, place));
+            }
+            frames.push(list_frame(mode))?;
+            Ok(Step::Goes(Mode::List(depth + 1, false)))
+        }
+        None => Err(fault(frames.as_slice(), mode, ScanKind::Dot, place)),
+    }
+}
+
+// Behind a dot stands the last form.
+fn point(frames: &mut Vec<Frame>, mode: Mode, place: u32) -> Result<Step, TextFault>
+    ensures few { elements frames.new.items ≤ elements frames.old.items }
+    ensures takes { IfOk result (λ step. (trees : List Tree) → AreBegun trees frames.old.items → AreDotsWithin place frames.old.items → Takes trees frames.old.items mode place piece.Point trees frames.new.items step) }
+    ensures stops { IfErr result (λ fault. (trees : List Tree) → AreDotsWithin place frames.old.items → IsDotWithin place mode → Stops trees frames.old.items mode place piece.Point fault) }
+{
+    match begun_in(mode) {
+        Some(depth) => {
+            frames.push(Frame::Dot(place))?;
+            Ok(Step::Goes(Mode::Form(depth)))
+        }
+        None => Err(fault(frames.as_slice(), mode, ScanKind::Dot, place)),
+    }
+}
+
+// A `)` ends a list.
+fn close(
+    alloc: Global,
+    trees: &mut Trees,
+    frames: &mut Vec<Frame>,
+    mode: Mode,
+    place: u32,
+) -> Result<Step, TextFault>
+    requires begun { AreBegun trees.old frames.old.items }
+    requires known { IsMode trees.old mode }
+    requires dots { AreDotsWithin place frames.old.items }
+    requires dot { IsDotWithin place mode }
+    requires fits { length trees.old + elements frames.old.items < 2 ^ 31 }
+    ensures grows { Grows trees.old trees.new }
+    ensures few { length trees.new + elements frames.new.items ≤ length trees.old + elements frames.old.items + 1 }
+    ensures takes { IfOk result (Takes trees.old frames.old.items mode place piece.Closing trees.new frames.new.items) }
+    ensures stops { IfErr result (Stops trees.old frames.old.items mode place piece.Closing) }
+{
+    match ended_in(trees, mode) {
+        Some(tree) => match settle(alloc, trees, frames, tree) {
+            Ok(step) => Ok(step),
+            Err(_) => Err(TextFault::OutOfMemory),
+        },
+        None => Err(fault(frames.as_slice(), mode, ScanKind::Close, place)),
+    }
+}
+
+// A form is an element of a list, or the form that is awaited.
+fn place_form(
+    alloc: Global,
+    trees: &mut Trees,
+    frames: &mut Vec<Frame>,
+    mode: Mode,
+    depth: u32,
+    tree: Node,
+) -> Result<Step, TextFault>
+    requires begun { AreBegun trees.old frames.old.items }
+    requires known { IsKnown trees.old tree.0 }
+    requires depth { depth_in mode ≡ Some depth }
+    requires fits { length trees.old + elements frames.old.items < 2 ^ 31 }
+    ensures grows { Grows trees.old trees.new }
+    ensures few { length trees.new + elements frames.new.items ≤ length trees.old + elements frames.old.items + 1 }
+    ensures places { IfOk result (Places trees.old frames.old.items mode (tree_at trees.old tree.0) trees.new frames.new.items) }
+    ensures fault { IfErr result (λ fault. fault ≡ TextFault.OutOfMemory) }
+{
+    match mode {
+        Mode::List(_, _) => {
+            frames.push(Frame::Element(tree))?;
+            Ok(Step::Goes(Mode::List(depth, true)))
+        }
+        _ => match settle(alloc, trees, frames, tree) {
+            Ok(step) => Ok(step),
+            Err(_) => Err(TextFault::OutOfMemory),
+        },
+    }
+}
+
+// An atom or a symbol is a form.
+fn take(
+    alloc: Global,
+    trees: &mut Trees,
+    frames: &mut Vec<Frame>,
+    mode: Mode,
+    leaf: Leaf<'_>,
+    place: u32,
+) -> Result<Step, TextFault>
+    requires digits { HasDigits leaf }
+    requires begun { AreBegun trees.old frames.old.items }
+    requires known { IsMode trees.old mode }
+    requires dots { AreDotsWithin place frames.old.items }
+    requires dot { IsDotWithin place mode }
+    requires fits { length trees.old + elements frames.old.items + 1 < 2 ^ 31 }
+    ensures grows { Grows trees.old trees.new }
+    ensures few { length trees.new + elements frames.new.items ≤ length trees.old + elements frames.old.items + 2 }
+    ensures takes { IfOk result (Takes trees.old frames.old.items mode place (piece.Form leaf.entry) trees.new frames.new.items) }
+    ensures stops { IfErr result (Stops trees.old frames.old.items mode place (piece.Form leaf.entry)) }
+{
+    match depth_in(mode) {
+        Some(depth) => {
+            let tree = put(alloc, trees, leaf)?;
+            place_form(alloc, trees, frames, mode, depth, tree)
+        }
+        None => Err(fault(frames.as_slice(), mode, ScanKind::Dot, place)),
+    }
+}
+
+/// What the token at this place leads to.
+pub(crate) fn advance(
+    alloc: Global,
+    trees: &mut Trees,
+    frames: &mut Vec<Frame>,
+    mode: Mode,
+    piece: Piece<'_>,
+    place: u32,
+) -> Result<Step, TextFault>
+    requires digits { HasPieceDigits piece }
+    requires begun { AreBegun trees.old frames.old.items }
+    requires known { IsMode trees.old mode }
+    requires dots { AreDotsWithin place frames.old.items }
+    requires dot { IsDotWithin place mode }
+    requires fits { length trees.old + elements frames.old.items + 1 < 2 ^ 31 }
+    ensures grows { Grows trees.old trees.new }
+    ensures few { length trees.new + elements frames.new.items ≤ length trees.old + elements frames.old.items + 2 }
+    ensures taken { OnOk result (IsTaken piece.entry) }
+    ensures takes { IfOk result (Takes trees.old frames.old.items mode place piece.entry trees.new frames.new.items) }
+    ensures stops { IfErr result (Stops trees.old frames.old.items mode place piece.entry) }
+{
+    match piece {
+        Piece::Opening => open(frames, mode, place),
+        Piece::Closing => close(alloc, trees, frames, mode, place),
+        Piece::Point => point(frames, mode, place),
+        Piece::Form(leaf) => take(alloc, trees, frames, mode, leaf, place),
+        Piece::Bad(kind) => Err(fault(frames.as_slice(), mode, kind, place)),
+        Piece::End => Err(fault(frames.as_slice(), mode, ScanKind::End, place)),
+    }
+}

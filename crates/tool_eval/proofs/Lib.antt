@@ -1,0 +1,3 @@
+pub mod RunWords
+pub mod Spellings
+pub mod Environments

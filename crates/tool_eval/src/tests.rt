@@ -1,0 +1,59 @@
+ghost use Rattle.std.specs.Prelude.{◌≤◌, ◌^◌, length};
+
+use crate::{Style, eval};
+use clvm_tree::Trees;
+use std::alloc::Global;
+use std::test::Fail;
+
+const COST: u64 = 11_000_000_000;
+
+// The line of a program's run on an environment, both in hexadecimal.
+fn line(alloc: Global, program: &str, env: &str, style: Style, cost: u64) -> Result<String, Fail> {
+    let env = hex::decode(alloc, env)?;
+    if program.len() > 1_000 || env.len() > 1_000 {
+        return Ok(String::new(alloc));
+    }
+    Trees::new(alloc).read_whole(alloc, &env)?;
+    Ok(eval(alloc, program.as_bytes(), &env, style, cost)?)
+}
+
+#[test]
+fn runs_in_hexadecimal(rt: HostRuntime) -> Result<(), Fail> {
+    let wide = "ff10ffff0191010000000000000000000000000000000080";
+    let rows = [
+        ("ff10ff02ffff010180", "ff0580", COST, "value 06 cost 824\n"),
+        ("ff10ff02ffff010180", "ff0580", 824, "value 06 cost 824\n"),
+        ("ff10ff02ffff010180", "ff0580", 823, "spent cost\n"),
+        ("01", "80", COST, "value 80 cost 44\n"),
+        ("ff0880", "80", 0, "spent cost\n"),
+        ("ff0880", "80", 1, "failed raised 80 ff0880\n"),
+        (
+            "ff13ffff0181f9ffff010280",
+            "80",
+            COST,
+            "value 81fc cost 1047\n",
+        ),
+        ("ff02ffff0102ff0180", "ff0980", COST, "value 09 cost 203\n"),
+        ("02", "80", COST, "failed path 02\n"),
+        (wide, "80", COST, "wide\n"),
+    ];
+    for (program, env, cost, want) in rows {
+        let got = line(rt.alloc(), program, env, Style::Hexadecimal, cost)?;
+        assert!(rt; got.as_str() == want, "{program}: {got}");
+    }
+    Ok(())
+}
+
+#[test]
+fn runs_as_text(rt: HostRuntime) -> Result<(), Fail> {
+    let rows = [
+        ("ff01ff6480", "80", "value (100) cost 20\n"),
+        ("ff0880", "80", "failed raised () (x)\n"),
+        ("ff05ff0180", "05", "failed operand 0 (f 1)\n"),
+    ];
+    for (program, env, want) in rows {
+        let got = line(rt.alloc(), program, env, Style::Text, COST)?;
+        assert!(rt; got.as_str() == want, "{program}: {got}");
+    }
+    Ok(())
+}
