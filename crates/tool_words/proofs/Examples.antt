@@ -1,6 +1,6 @@
 -- What some lists of words are, worked out.
 use Rattle.std.proofs.Common.{◌≡◌, [], ◌∷◌, Some, None, refl, codes}
-use Rattle.tool_words.specs.Rows.{Row, Said, said_in}
+use Rattle.tool_words.specs.Rows.{Row, IsFlag, IsNumber, IsOther, said_in}
 use Rattle.tool_words.specs.Commands.{command_of}
 use Rattle.tool_words.specs.declared.said.Command.TheVariants.{Session, Hash}
 
@@ -32,17 +32,17 @@ help = refl
 one : Row
 one = record { flags = codes "text" ∷ []; numbers = codes "cost" ∷ codes "lanes" ∷ []; least = 1; most = 1 }
 
-env : said_in one (codes "80" ∷ []) ≡ Some (record { flags = []; numbers = []; others = codes "80" ∷ [] })
+env : said_in one (codes "80" ∷ []) ≡ Some (IsOther (codes "80") ∷ [])
 unfolding one
 env = refl
 
 all_of_it : said_in one (codes "--lanes=2" ∷ codes "80" ∷ codes "--cost" ∷ codes "5" ∷ codes "--text" ∷ [])
-    ≡ Some (record { flags = codes "text" ∷ []; numbers = (codes "lanes", codes "2") ∷ (codes "cost", codes "5") ∷ []; others = codes "80" ∷ [] })
+    ≡ Some (IsNumber (codes "lanes") (codes "2") ∷ IsOther (codes "80") ∷ IsNumber (codes "cost") (codes "5") ∷ IsFlag (codes "text") ∷ [])
 unfolding one
 all_of_it = refl
 
 -- the next word is the number's
-takes_the_next : said_in one (codes "--cost" ∷ codes "80" ∷ codes "5" ∷ []) ≡ Some (record { flags = []; numbers = (codes "cost", codes "80") ∷ []; others = codes "5" ∷ [] })
+takes_the_next : said_in one (codes "--cost" ∷ codes "80" ∷ codes "5" ∷ []) ≡ Some (IsNumber (codes "cost") (codes "80") ∷ IsOther (codes "5") ∷ [])
 unfolding one
 takes_the_next = refl
 
@@ -99,7 +99,7 @@ unfolding one
 two_words = refl
 
 twenty_digits : said_in one (codes "--cost" ∷ codes "00000000000000000005" ∷ codes "80" ∷ [])
-    ≡ Some (record { flags = []; numbers = (codes "cost", codes "00000000000000000005") ∷ []; others = codes "80" ∷ [] })
+    ≡ Some (IsNumber (codes "cost") (codes "00000000000000000005") ∷ IsOther (codes "80") ∷ [])
 unfolding one
 twenty_digits = refl
 
@@ -108,6 +108,6 @@ unfolding one
 twenty_one_digits = refl
 
 -- an empty word is a word
-empty_word : said_in one ([] ∷ []) ≡ Some (record { flags = []; numbers = []; others = [] ∷ [] })
+empty_word : said_in one ([] ∷ []) ≡ Some (IsOther [] ∷ [])
 unfolding one
 empty_word = refl

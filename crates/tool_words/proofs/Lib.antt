@@ -1,1 +1,9 @@
 pub mod Examples
+pub mod Tokens
+pub mod Turns
+pub mod Walks
+pub mod Built
+pub mod Found
+pub mod Laws
+pub mod Rules
+pub mod Answered

@@ -1,2 +1,4 @@
 pub mod Rows
+pub mod Parser
 pub mod Commands
+pub mod Fits

@@ -1,5 +1,5 @@
 -- What the words behind a command's name say. This project's own.
-use Rattle.std.specs.Prelude.{ℕ, Bool, true, false, not, ◌==◌, ◌&&◌, List, [], ◌∷◌, map, length, Option, Some, None, option_map, option_and_then, if◌then◌else◌, nat_le, bytes_eq}
+use Rattle.std.specs.Prelude.{ℕ, Bool, true, not, ◌==◌, ◌&&◌, List, [], ◌∷◌, length, Option, Some, None, option_map, option_and_then, if◌then◌else◌, nat_le, bytes_eq}
 use Rattle.std.specs.List.{list_any, list_all, before_first, after_first}
 
 abbrev pub Text : Type 0
@@ -90,6 +90,7 @@ flags_in (IsFlag name ∷ items) = name ∷ flags_in items
 flags_in (IsNumber name value ∷ items) = flags_in items
 flags_in (IsOther word ∷ items) = flags_in items
 
+-- the numbers, each with the text of its value
 abbrev pub numbers_in : List Item → List (Text × Text)
 numbers_in [] = []
 numbers_in (IsFlag name ∷ items) = numbers_in items
@@ -102,13 +103,24 @@ others_in (IsFlag name ∷ items) = others_in items
 others_in (IsNumber name value ∷ items) = others_in items
 others_in (IsOther word ∷ items) = word ∷ others_in items
 
--- whether each name stands there at most once
-abbrev pub are_distinct : List Text → Bool
-are_distinct [] = true
-are_distinct (name ∷ names) = not (is_among names name) && are_distinct names
+-- the text of the number of this name
+abbrev pub value_of : Text → List Item → Option Text
+value_of name [] = None
+value_of name (IsFlag other ∷ items) = value_of name items
+value_of name (IsNumber other value ∷ items) = if bytes_eq other name then Some value else value_of name items
+value_of name (IsOther word ∷ items) = value_of name items
 
-abbrev pub names_of : List (Text × Text) → List Text
-names_of = map (λ number. number.0)
+-- the names of flags and numbers, in order
+abbrev pub options_in : List Item → List Text
+options_in [] = []
+options_in (IsFlag name ∷ items) = name ∷ options_in items
+options_in (IsNumber name value ∷ items) = name ∷ options_in items
+options_in (IsOther word ∷ items) = options_in items
+
+-- whether no name is among those before it, or twice there
+abbrev pub are_new : List Text → List Text → Bool
+are_new before [] = true
+are_new before (name ∷ names) = not (is_among before name) && are_new (name ∷ before) names
 
 abbrev pub is_digit : ℕ → Bool
 is_digit byte = nat_le 48 byte && nat_le byte 57
@@ -117,25 +129,17 @@ is_digit byte = nat_le 48 byte && nat_le byte 57
 abbrev pub is_digits : Text → Bool
 is_digits text = nat_le 1 (length text) && (nat_le (length text) 20 && list_all is_digit text)
 
--- What the words of a row say.
-pub record Said : Type 0 where
-  pub flags : List Text
-  -- the names of the numbers, with their digits
-  pub numbers : List (Text × Text)
-  pub others : List Text
+abbrev pub have_digits : List Item → Bool
+have_digits items = list_all (λ number. is_digits number.1) (numbers_in items)
 
-abbrev pub said_by : List Item → Said
-said_by items = record { flags = flags_in items; numbers = numbers_in items; others = others_in items }
+-- each option is said once, the value of each number is 1 to 20 digits, and there are as many other words as the row has
+abbrev pub is_whole : Row → List Item → Bool
+is_whole row items = are_new [] (options_in items)
+    && (have_digits items && (nat_le row.least (length (others_in items)) && nat_le (length (others_in items)) row.most))
 
--- each option is said once, each number has 1 to 20 digits, and there are as many other words as the row has
-abbrev pub is_whole : Row → Said → Bool
-is_whole row said = are_distinct said.flags
-    && (are_distinct (names_of said.numbers)
-    && (list_all (λ number. is_digits number.1) said.numbers
-    && (nat_le row.least (length said.others) && nat_le (length said.others) row.most)))
+abbrev pub whole : Row → List Item → Option (List Item)
+whole row items = if is_whole row items then Some items else None
 
-abbrev pub whole : Row → Said → Option Said
-whole row said = if is_whole row said then Some said else None
-
-abbrev pub said_in : Row → List Text → Option Said
-said_in row words = option_and_then (λ items. whole row (said_by items)) (items_from row None words)
+-- what the words of a row say, where they are its words
+abbrev pub said_in : Row → List Text → Option (List Item)
+said_in row words = option_and_then (whole row) (items_from row None words)

@@ -1,6 +1,8 @@
 //! The program's words: which command they are, and what they say to it.
 #![tactic(auto)]
 
+mod parse;
+mod row;
 pub mod said;
 pub mod words;
 

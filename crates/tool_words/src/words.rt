@@ -1,8 +1,11 @@
 //! The command that the program's words are.
 
-ghost use Rattle.std.specs.Prelude.{◌≡◌, map, string_bytes};
-ghost use Rattle.tool_words.specs.Commands.{command_of, command_by, Says};
+ghost use Rattle.std.specs.Prelude.{map, option_map, string_bytes};
+ghost use Rattle.tool_words.specs.Rows.{said_in};
+ghost use Rattle.tool_words.specs.Commands.{nothing, command_of, command_by, Says};
 
+use crate::parse::parse;
+use crate::row::Row;
 use crate::said::{Command, WordsFault};
 use std::alloc::Global;
 
@@ -21,15 +24,26 @@ pub fn command(alloc: Global, words: &[String]) -> Result<Command, WordsFault>
 }
 
 // The command of this name, with the words behind it.
-fn command_by(_alloc: Global, name: &str, words: &[String]) -> Result<Command, WordsFault>
+fn command_by(alloc: Global, name: &str, words: &[String]) -> Result<Command, WordsFault>
     ensures { Says (command_by name.now (map string_bytes words.now)) result }
 {
-    if !words.is_empty() {
-        return Err(WordsFault::Words);
-    }
     match name {
-        "session" => Ok(Command::Session),
-        "hash" => Ok(Command::Hash),
+        "session" => alone(alloc, Command::Session, words),
+        "hash" => alone(alloc, Command::Hash, words),
         _ => Err(WordsFault::Words),
     }
+}
+
+// A command that has no words.
+fn alone(alloc: Global, command: Command, words: &[String]) -> Result<Command, WordsFault>
+    ensures { Says (option_map (λ items. command) (said_in nothing (map string_bytes words.now))) result }
+{
+    let row = Row {
+        flags: &[],
+        numbers: &[],
+        least: 0,
+        most: 0,
+    };
+    parse(alloc, row, words)?;
+    Ok(command)
 }
