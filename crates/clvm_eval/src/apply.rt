@@ -3,7 +3,7 @@
 ghost use Rattle.std.specs.Prelude.{◌≡◌, ℕ, ◌+◌, ◌-◌, ◌<◌, ◌≤◌, ◌++◌, List, length, take, drop, reverse, true, false, IfErr, OnOk, OnErr};
 ghost use Rattle.clvm_spec.specs.declared.fuel.Fuel.{Fuel};
 ghost use Rattle.clvm_spec.specs.Tree.{Tree};
-ghost use Rattle.clvm_spec.specs.Outcomes.{Applied};
+ghost use Rattle.clvm_spec.specs.Outcomes.{WithinFuel};
 ghost use Rattle.clvm_spec.specs.Evaluation.{in_form};
 ghost use Rattle.clvm_tree.specs.Nodes.{tree_at, IsKnown, Grows};
 ghost use Rattle.clvm_tree.specs.Operators.{IsWithin, IsOpFault};
@@ -31,8 +31,8 @@ pub(crate) fn is_apply(trees: &Trees, code: Node) -> bool
 
 // The fault of an operator as that of its form.
 fn fault_in(form: Node, fault: OpFault) -> RunFault
-    ensures { (trees : List Tree) (applied : Applied) (left : Fuel) → IsKnown trees form.0 → IsOpFault trees applied fault →
-        IsRunFault trees (in_form (tree_at trees form.0) left applied) result }
+    ensures { (trees : List Tree) (outcome : WithinFuel) (left : Fuel) → IsKnown trees form.0 → IsOpFault trees outcome fault →
+        IsRunFault trees (in_form (tree_at trees form.0) left outcome) result }
 {
     match fault {
         OpFault::Operand(place) => RunFault::Failed(Why::Operand(place), form),

@@ -1,15 +1,15 @@
 -- How the parts of a body's answer come together.
-use Rattle.std.proofs.Common.{◌≡◌, ℕ, ◌+◌, ◌≤◌, ℤ, Bool, true, false, cond, Option, Some, None, Result, Ok, Err, List, length, FitsSigned, sym, ap, ◌∙◌, refl, arith}
+use Rattle.std.proofs.Common.{◌≡◌, ℕ, ◌+◌, ◌*◌, ◌≤◌, ℤ, Bool, true, false, cond, Some, None, Result, Ok, Err, List, length, FitsSigned, sym, ap, ◌∙◌, refl, arith}
 use Rattle.std.specs.Int.{w128}
 use Rattle.std.specs.Result.{IsErrAnd, IfOk, IfErr}
 use Rattle.std.proofs.lemmas.Result.{err_from_is_err_and}
 use Rattle.std.proofs.lemmas.Bool.{cond-true, cond-false, le-ltb}
 use Rattle.clvm_spec.specs.declared.fuel.Fuel.{Fuel}
 use Rattle.clvm_spec.specs.Tree.{Tree, Atom}
-use Rattle.clvm_spec.specs.Outcomes.{Applied, Gives, TooWide}
+use Rattle.clvm_spec.specs.Outcomes.{Applied, Gives, TooWide, WithinFuel, Enough, Lacks}
 use Rattle.clvm_spec.specs.Numbers.{shortest_atom}
 use Rattle.clvm_spec.specs.Arithmetic.{fits_128, if_fits}
-use Rattle.clvm_spec.specs.Operators.{new_number, shifted_number, written}
+use Rattle.clvm_spec.specs.Operators.{new_number, written}
 use Rattle.clvm_spec.specs.OperatorTable.{applied, within, within_cost}
 use Rattle.clvm_tree.specs.Nodes.{tree_at, IsKnown, Grows}
 use Rattle.clvm_tree.specs.Operators.{IsWithin, IsOpFault}
@@ -27,22 +27,27 @@ use Rattle.clvm_ops.specs.declared.give.Charge.{Charge}
 pub handed : {T E : Type 0} (Q : E → Type 0) (e : E) (result : Result T E) → IsErrAnd result (λ y. y ≡ e) → Q e → IfErr result Q
 handed Q e result is q = let r = err_from_is_err_and result is in rw (r.1, r.2) q
 
+-- within what is left, where that isn't asked yet
+abbrev again : Fuel → WithinFuel → WithinFuel
+again left (Enough applied) = within left applied
+again left (Lacks which) = Lacks which
+
 -- a fault stays what it is within what is left
-pub still_faulty : (trees : List Tree) (left : Fuel) (applied : Applied) (f : OpFault) → IsOpFault trees applied f → IsOpFault trees (within left applied) f
-still_faulty trees left applied (fault.Operand place) e = ap (within left) e
-still_faulty trees left applied fault.Count e = ap (within left) e
-still_faulty trees left applied (fault.Raised node) e = record { known = e.known; raised = ap (within left) e.raised }
-still_faulty trees left applied fault.ZeroDivisor e = ap (within left) e
-still_faulty trees left applied fault.Shift e = ap (within left) e
-still_faulty trees left applied fault.NoOperator e = ap (within left) e
-still_faulty trees left applied fault.Wide e = ap (within left) e
-still_faulty trees left applied (fault.Spent which) e = ap (within left) e
+pub still_faulty : (trees : List Tree) (left : Fuel) (applied : Applied) (f : OpFault) → IsOpFault trees (Enough applied) f → IsOpFault trees (within left applied) f
+still_faulty trees left applied (fault.Operand place) e = ap (again left) e
+still_faulty trees left applied fault.Count e = ap (again left) e
+still_faulty trees left applied (fault.Raised node) e = record { known = e.known; raised = ap (again left) e.raised }
+still_faulty trees left applied fault.ZeroDivisor e = ap (again left) e
+still_faulty trees left applied fault.Shift e = ap (again left) e
+still_faulty trees left applied fault.NoOperator e = ap (again left) e
+still_faulty trees left applied fault.Wide e = ap (again left) e
+still_faulty trees left applied (fault.Spent which) e = ap (again left) e
 still_faulty trees left applied fault.OutOfMemory e = e
 
 refused : (trees : List Tree) (operands : ℕ) (left : Fuel) (applied : Applied) (f : OpFault) → IsOpFault trees (within left applied) f → Answers trees trees operands left applied (Err f)
 refused trees operands left applied f is = record { grows = grows_same trees; few = omega arith; is = is }
 
-pub refused_at_once : (trees : List Tree) (operands : ℕ) (left : Fuel) (applied : Applied) (f : OpFault) → IsOpFault trees applied f → Answers trees trees operands left applied (Err f)
+pub refused_at_once : (trees : List Tree) (operands : ℕ) (left : Fuel) (applied : Applied) (f : OpFault) → IsOpFault trees (Enough applied) f → Answers trees trees operands left applied (Err f)
 refused_at_once trees operands left applied f is = refused trees operands left applied f (still_faulty trees left applied f is)
 
 -- a fault that is handed on, where no node was added
@@ -51,10 +56,10 @@ spent trees operands left applied f result handed is =
     let e = err_from_is_err_and result handed in
     rw (e.1, e.2) (refused trees operands left applied f is)
 
-pub faulty : (trees : List Tree) (operands : ℕ) (left : Fuel) (applied : Applied) (f : OpFault) (result : Result Answer OpFault) → IsErrAnd result (λ e. e ≡ f) → IsOpFault trees applied f → Answers trees trees operands left applied result
+pub faulty : (trees : List Tree) (operands : ℕ) (left : Fuel) (applied : Applied) (f : OpFault) (result : Result Answer OpFault) → IsErrAnd result (λ e. e ≡ f) → IsOpFault trees (Enough applied) f → Answers trees trees operands left applied result
 faulty trees operands left applied f result handed is = spent trees operands left applied f result handed (still_faulty trees left applied f is)
 
-pub fault_same : (trees : List Tree) (applied other : Applied) (f : OpFault) → applied ≡ other → IsOpFault trees other f → IsOpFault trees applied f
+pub fault_same : (trees : List Tree) (applied other : Applied) (f : OpFault) → applied ≡ other → IsOpFault trees (Enough other) f → IsOpFault trees (Enough applied) f
 fault_same trees applied other f e is = rw e is
 
 -- the answer of what is the same
@@ -62,7 +67,7 @@ pub answers_same : (old new : List Tree) (operands : ℕ) (left : Fuel) (applied
 answers_same old new operands left applied other result e answers = rw e answers
 
 -- what is left suffices
-enough : (left : Fuel) (value : Tree) (cost pairs bytes : ℕ) → cost ≤ left.cost → pairs ≤ left.pairs → bytes ≤ left.bytes → within_cost left value cost pairs bytes ≡ Gives value cost pairs bytes
+enough : (left : Fuel) (value : Tree) (cost pairs bytes : ℕ) → cost ≤ left.cost → pairs ≤ left.pairs → bytes ≤ left.bytes → within_cost left value cost pairs bytes ≡ Enough (Gives value cost pairs bytes)
 enough left value cost pairs bytes c p b =
     cond-false _ _ _ (le-ltb left.cost cost c) ∙ cond-false _ _ _ (le-ltb left.pairs pairs p) ∙ cond-false _ _ _ (le-ltb left.bytes bytes b)
 
@@ -78,7 +83,7 @@ given_new old new left applied value cost pairs bytes charge node answer e charg
     rw is (record {
       grows = grows;
       few = omega (arith, charged.pairs_is, charged.bytes_is);
-      is = record { known = known; gives = whole ∙ same };
+      is = record { known = known; gives = whole ∙ ap Enough same };
     })
 
 -- ---- numbers
@@ -93,11 +98,11 @@ written_or_wide false cost n e = sym (cond-false _ _ TooWide (sym e))
 pub number_or_wide-if_fits : (cost : ℕ) (n : ℤ) → number_or_wide cost (if_fits n) ≡ new_number cost n
 number_or_wide-if_fits cost n = written_or_wide (fits_128 n) cost n refl
 
-shifted_either : (fits : Bool) (cost size : ℕ) (n : ℤ) → fits ≡ fits_128 n → shifted_or_wide cost size (cond fits (Some n) None) ≡ shifted_number cost size n
+shifted_either : (fits : Bool) (cost size : ℕ) (n : ℤ) → fits ≡ fits_128 n → shifted_or_wide cost size (cond fits (Some n) None) ≡ new_number (cost + 3 * (size + length (shortest_atom n))) n
 shifted_either true cost size n e = refl
 shifted_either false cost size n e = sym (cond-false _ _ TooWide (sym e))
 
-pub shifted_or_wide-if_fits : (cost size : ℕ) (n : ℤ) → shifted_or_wide cost size (if_fits n) ≡ shifted_number cost size n
+pub shifted_or_wide-if_fits : (cost size : ℕ) (n : ℤ) → shifted_or_wide cost size (if_fits n) ≡ new_number (cost + 3 * (size + length (shortest_atom n))) n
 shifted_or_wide-if_fits cost size n = shifted_either (fits_128 n) cost size n refl
 
 -- what is given is within what is left

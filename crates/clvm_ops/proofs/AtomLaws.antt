@@ -1,19 +1,16 @@
 -- Operators on the bytes of atoms, by what is read of their operands.
-use Rattle.std.proofs.Common.{Ordering, Less, Equal, Greater, ◌≡◌, ℕ, zero, suc, ◌+◌, ◌-◌, ◌*◌, ◌^◌, ◌<◌, ◌≤◌, ℤ, pos, negsuc, Bool, true, false, cond, Option, Some, None, List, [], ◌∷◌, ◌++◌, length, get_or, take, drop, map, FitsSigned, refl, sym, ap, ap₂, ◌∙◌, arith}
+use Rattle.std.proofs.Common.{Ordering, Less, Equal, Greater, ◌≡◌, ℕ, ◌+◌, ◌*◌, ◌<◌, pos, Bool, Some, List, [], ◌∷◌, ◌++◌, length, get_or, take, map, refl, sym, ap, ap₂, ◌∙◌, arith}
 use Rattle.std.specs.Prelude.{bytes_eq}
-use Rattle.std.specs.Int.{w128}
 use Rattle.std.specs.List.{concat}
 use Rattle.std.specs.Ordering.{nat_cmp, is_gt, is_some_and, ordering_then, partial_ordering_then}
 use Rattle.std.specs.Cmp.Lexicographic.{slice_cmp, slice_partial_cmp}
-use Rattle.std.proofs.lemmas.Bool.{cond-true}
 use Rattle.std.proofs.lemmas.List.{append-nil, length-append, length-map, map_more, map_push}
 use Rattle.std.proofs.lemmas.List.Folds.{concat-append}
 use Rattle.std.proofs.lemmas.List.Sums.{sum_by-cons}
 use Rattle.sha2.specs.Sha256.{sha256}
 use Rattle.sha2.proofs.Facts256.{length-sha256}
 use Rattle.clvm_spec.specs.Tree.{Tree, Atom}
-use Rattle.clvm_spec.specs.Numbers.{shortest_atom}
-use Rattle.clvm_spec.specs.Outcomes.{Applied, Gives, TooWide}
+use Rattle.clvm_spec.specs.Outcomes.{Applied, Gives}
 use Rattle.clvm_spec.specs.Operators.{two_atoms, equal_flag, bytes_greater_flag, length_of, hash_of, concat_of, lengths, new_atom, new_number, written, free, flag}
 use Rattle.clvm_tree.specs.Nodes.{tree_at}
 use Rattle.clvm_tree.specs.Operators.{trees_at}

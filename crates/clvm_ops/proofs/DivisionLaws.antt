@@ -1,5 +1,5 @@
 -- Quotient and remainder in a pair.
-use Rattle.std.proofs.Common.{◌≡◌, ℕ, ◌+◌, ◌*◌, ◌≤◌, ℤ, Bool, true, false, cond, ◌&&◌, Option, Some, None, Result, Ok, Err, List, length, FitsSigned, refl, sym, ap, ap₂, ◌∙◌, arith}
+use Rattle.std.proofs.Common.{◌≡◌, ℕ, ◌+◌, ◌*◌, ℤ, Bool, true, false, cond, Some, None, Result, Ok, Err, List, length, FitsSigned, refl, sym, ap, ap₂, ◌∙◌, arith}
 use Rattle.std.specs.Int.{w128}
 use Rattle.std.specs.Result.{IfOk, OnErr}
 use Rattle.std.proofs.lemmas.Bool.{cond-true, cond-false, and_from, and_left}
@@ -7,8 +7,8 @@ use Rattle.clvm_spec.specs.Tree.{Tree, Atom, Pair}
 use Rattle.clvm_spec.specs.Numbers.{number, shortest_atom}
 use Rattle.clvm_spec.specs.Arithmetic.{fits_128, if_fits, is_zero, quotient, remainder}
 use Rattle.clvm_spec.specs.Outcomes.{Applied, Gives, Fails, TooWide, ZeroDivisor}
-use Rattle.clvm_spec.specs.Operators.{two_numbers, unless_zero, pair_of_atoms, pair_of_numbers, quotient_and_remainder}
-use Rattle.clvm_tree.specs.Nodes.{tree_at, IsKnown, Grows, Adds}
+use Rattle.clvm_spec.specs.Operators.{two_numbers, unless_zero, written_pair, new_pair_of_numbers, quotient_and_remainder}
+use Rattle.clvm_tree.specs.Nodes.{tree_at, Grows, Adds}
 use Rattle.clvm_tree.specs.declared.Node.{Node}
 use Rattle.clvm_tree.proofs.NodeLaws.{grows_same, stays}
 use Rattle.clvm_ops.proofs.Fits.{fits}
@@ -22,28 +22,28 @@ none_by true n e = absurd cc
 none_by false n e = refl
 
 pub pair_some : (cost : ℕ) (q r n d : ℤ) → Some q ≡ if_fits (quotient n d) → r ≡ remainder n d → FitsSigned w128 r
-    → pair_of_numbers cost (quotient n d) (remainder n d) ≡ pair_of_atoms cost (shortest_atom q) (shortest_atom r)
+    → new_pair_of_numbers cost (quotient n d) (remainder n d) ≡ written_pair cost (shortest_atom q) (shortest_atom r)
 pair_some cost q r n d quotient_is remainder_is held =
     let found = some_by (fits_128 (quotient n d)) q (quotient n d) quotient_is in
     cond-true _ _ TooWide (and_from _ _ found.0 (ap fits_128 (sym remainder_is) ∙ fits r held))
-    ∙ ap₂ (λ a b. pair_of_atoms cost (shortest_atom a) (shortest_atom b)) (sym found.1) (sym remainder_is)
+    ∙ ap₂ (λ a b. written_pair cost (shortest_atom a) (shortest_atom b)) (sym found.1) (sym remainder_is)
 
-pub pair_none : (cost : ℕ) (n d : ℤ) → None ≡ if_fits (quotient n d) → pair_of_numbers cost (quotient n d) (remainder n d) ≡ TooWide
+pub pair_none : (cost : ℕ) (n d : ℤ) → None ≡ if_fits (quotient n d) → new_pair_of_numbers cost (quotient n d) (remainder n d) ≡ TooWide
 pair_none cost n d e = cond-false _ _ TooWide (and_left _ (fits_128 (remainder n d)) (none_by (fits_128 (quotient n d)) (quotient n d) e))
 
-pub pair_of_atoms_is : (cost : ℕ) (a b : List ℕ) (m n : ℕ) → m ≡ length a → n ≡ length b → pair_of_atoms cost a b ≡ Gives (Pair (Atom a) (Atom b)) (cost + 10 * (m + n)) 1 (m + n + 16)
-pair_of_atoms_is cost a b m n first second =
+pub written_pair_is : (cost : ℕ) (a b : List ℕ) (m n : ℕ) → m ≡ length a → n ≡ length b → written_pair cost a b ≡ Gives (Pair (Atom a) (Atom b)) (cost + 10 * (m + n)) 1 (m + n + 16)
+written_pair_is cost a b m n first second =
     let costs : cost + 10 * (length a + length b) ≡ cost + 10 * (m + n) = omega arith in
     let bytes : (length a + 8) + (length b + 8) ≡ m + n + 16 = omega arith in
     ap₂ (λ c k. Gives (Pair (Atom a) (Atom b)) c 1 k) costs bytes
 
 pub division_is : (operands : List Tree) (x y : List ℕ) (n d : ℤ) → ((go : List ℕ → List ℕ → Applied) → two_numbers operands go ≡ go x y) → n ≡ number x → d ≡ number y → is_zero d ≡ false
-    → quotient_and_remainder operands ≡ pair_of_numbers (1116 + 6 * (length x + length y)) (quotient n d) (remainder n d)
+    → quotient_and_remainder operands ≡ new_pair_of_numbers (1116 + 6 * (length x + length y)) (quotient n d) (remainder n d)
 division_is operands x y n d read first second some =
     let cost = 1116 + 6 * (length x + length y) in
-    read (λ a b. unless_zero (number b) (pair_of_numbers (1116 + 6 * (length a + length b)) (quotient (number a) (number b)) (remainder (number a) (number b))))
-    ∙ cond-false _ (Fails ZeroDivisor) (pair_of_numbers cost (quotient (number x) (number y)) (remainder (number x) (number y))) (ap is_zero (sym second) ∙ some)
-    ∙ ap₂ (λ a b. pair_of_numbers cost (quotient a b) (remainder a b)) (sym first) (sym second)
+    read (λ a b. unless_zero (number b) (new_pair_of_numbers (1116 + 6 * (length a + length b)) (quotient (number a) (number b)) (remainder (number a) (number b))))
+    ∙ cond-false _ (Fails ZeroDivisor) (new_pair_of_numbers cost (quotient (number x) (number y)) (remainder (number x) (number y))) (ap is_zero (sym second) ∙ some)
+    ∙ ap₂ (λ a b. new_pair_of_numbers cost (quotient a b) (remainder a b)) (sym first) (sym second)
 
 -- two new nodes and their pair
 paired : (old t u new : List Tree) (a b : Tree) (first second pair : ℕ) → Adds old t first a → Adds t u second b → Adds u new pair (Pair (tree_at u first) (tree_at u second)) → tree_at new pair ≡ Pair a b

@@ -1,21 +1,21 @@
 -- What is calculated of any count of numbers, step by step.
-use Rattle.std.proofs.Common.{◌≡◌, ℕ, zero, suc, ◌+◌, ◌-◌, ◌*◌, ◌/◌, ◌^◌, ◌<◌, ◌≤◌, ℤ, pos, negsuc, ◌+ℤ◌, ◌-ℤ◌, ◌*ℤ◌, Bool, true, false, cond, Option, Some, None, List, [], ◌∷◌, ◌++◌, length, get_or, take, drop, map, FitsSigned, to_z, of_z, subst, refl, sym, ap, ap₂, ◌∙◌, arith}
+use Rattle.std.proofs.Common.{◌≡◌, ℕ, suc, ◌+◌, ◌-◌, ◌*◌, ◌<◌, ◌≤◌, ℤ, ◌-ℤ◌, ◌*ℤ◌, Bool, true, false, cond, Option, Some, None, List, [], ◌∷◌, length, get_or, take, drop, map, FitsSigned, to_z, of_z, subst, refl, sym, ap, ap₂, ◌∙◌, arith}
 use Rattle.std.specs.List.{All}
 use Rattle.std.specs.Prelude.{fold}
 use Rattle.std.specs.Int.{w128}
-use Rattle.std.proofs.lemmas.Bool.{cond-true, cond-false, leb-true}
+use Rattle.std.proofs.lemmas.Bool.{cond-true, leb-true}
 use Rattle.std.proofs.lemmas.Int.{to_z-of_z}
 use Rattle.std.proofs.lemmas.List.{drop_more, take_rest, get_or-map, length-map}
 use Rattle.clvm_spec.specs.Tree.{Tree, nil}
 use Rattle.clvm_spec.specs.Numbers.{number, shortest_atom}
 use Rattle.clvm_spec.specs.Arithmetic.{fits_128}
 use Rattle.clvm_spec.specs.Outcomes.{Applied, TooWide}
-use Rattle.clvm_spec.specs.Operators.{from_left, less_others, times_others, product_from, new_number, factor_cost}
+use Rattle.clvm_spec.specs.Operators.{from_left, factors_cost, new_number}
 use Rattle.clvm_tree.specs.Nodes.{tree_at}
 use Rattle.clvm_tree.specs.Operators.{trees_at}
 use Rattle.clvm_tree.specs.declared.Node.{Node}
 use Rattle.clvm_ops.specs.OperandAtoms.{bytes_of, atoms_at, is_short}
-use Rattle.clvm_ops.specs.Folds.{numbers_at, held_from_left, held_difference, held_times, held_product}
+use Rattle.clvm_ops.specs.Folds.{numbers_at, held_from_left, held_difference, factor_cost, held_times, held_product}
 use Rattle.clvm_ops.specs.declared.folds.Product.{Product}
 use Rattle.clvm_ops.proofs.Fits.{fits}
 use Rattle.clvm_ops.proofs.NodeLists.{length-trees_at}
@@ -82,9 +82,9 @@ from_left_is step so_far (n ∷ ns) go =
     ap (λ a. cond (fits_128 (step so_far n)) a TooWide) (from_left_is step (step so_far n) ns go)
     ∙ sym (or_wide_if (fits_128 (step so_far n)) (held_from_left step (step so_far n) ns) go)
 
-pub less_others_is : (ns : List ℤ) (go : ℤ → Applied) → less_others ns go ≡ or_wide (held_difference ns) go
-less_others_is [] go = refl
-less_others_is (n ∷ ns) go = from_left_is ◌-ℤ◌ n ns go
+pub difference_is : (atoms : List (List ℕ)) (go : ℤ → Applied) → from_left ◌-ℤ◌ (number (get_or atoms 0 [])) (map number (drop 1 atoms)) go ≡ or_wide (held_difference (map number atoms)) go
+difference_is [] go = refl
+difference_is (a ∷ atoms) go = from_left_is ◌-ℤ◌ (number a) (map number atoms) go
 
 -- ---- products
 
@@ -129,14 +129,20 @@ product_if : (fits : Bool) (held : Option Product) → product_or_wide (cond fit
 product_if true held = refl
 product_if false held = refl
 
-times_others_is : (cost size : ℕ) (so_far : ℤ) (atoms : List (List ℕ)) → times_others cost size so_far atoms ≡ product_or_wide (held_times cost size so_far atoms)
-times_others_is cost size so_far [] = refl
-times_others_is cost size so_far (a ∷ atoms) =
+times_is : (cost size : ℕ) (so_far : ℤ) (atoms : List (List ℕ))
+    → from_left ◌*ℤ◌ so_far (map number atoms) (new_number (cost + factors_cost size so_far atoms)) ≡ product_or_wide (held_times cost size so_far atoms)
+times_is cost size so_far [] = ap (λ c. new_number c so_far) (omega arith)
+times_is cost size so_far (a ∷ atoms) =
     let product = so_far *ℤ number a in
-    let held = held_times (cost + factor_cost size (length a)) (length (shortest_atom product)) product atoms in
-    ap (λ x. cond (fits_128 product) x TooWide) (times_others_is (cost + factor_cost size (length a)) (length (shortest_atom product)) product atoms)
-    ∙ sym (product_if (fits_128 product) held)
+    let next = length (shortest_atom product) in
+    let more = cost + factor_cost size (length a) in
+    let costs : cost + factors_cost size so_far (a ∷ atoms) ≡ more + factors_cost next product atoms = omega arith in
+    ap (λ c. cond (fits_128 product) (from_left ◌*ℤ◌ product (map number atoms) (new_number c)) TooWide) costs
+    ∙ ap (λ x. cond (fits_128 product) x TooWide) (times_is more next product atoms)
+    ∙ sym (product_if (fits_128 product) (held_times more next product atoms))
 
-pub product_from_is : (atoms : List (List ℕ)) → product_from atoms ≡ product_or_wide (held_product atoms)
-product_from_is [] = refl
-product_from_is (a ∷ atoms) = times_others_is 92 (length a) (number a) atoms
+pub product_is : (atoms : List (List ℕ))
+    → (let first = get_or atoms 0 (1 ∷ []) in from_left ◌*ℤ◌ (number first) (map number (drop 1 atoms)) (new_number (92 + factors_cost (length first) (number first) (drop 1 atoms))))
+    ≡ product_or_wide (held_product atoms)
+product_is [] = refl
+product_is (a ∷ atoms) = times_is 92 (length a) (number a) atoms

@@ -1,14 +1,14 @@
 -- Operators on numbers, by what is read of their operands.
-use Rattle.std.proofs.Common.{◌≡◌, ℕ, zero, suc, ◌+◌, ◌*◌, ◌≤◌, ℤ, pos, negsuc, ◌+ℤ◌, ◌-ℤ◌, Bool, true, false, cond, Option, Some, None, List, [], ◌∷◌, length, map, FitsSigned, to_z, of_z, refl, sym, ap, ap₂, ◌∙◌, arith}
+use Rattle.std.proofs.Common.{◌≡◌, ℕ, zero, suc, ◌+◌, ◌*◌, ◌≤◌, ℤ, pos, negsuc, ◌+ℤ◌, ◌-ℤ◌, ◌*ℤ◌, Bool, false, Option, Some, None, List, [], ◌∷◌, length, get_or, drop, map, refl, sym, ap, ap₂, ◌∙◌, arith}
 use Rattle.std.specs.Prelude.{fold, int_lt}
 use Rattle.std.specs.Int.{w128, cast_unsigned}
-use Rattle.std.proofs.lemmas.Bool.{cond-true, cond-false}
+use Rattle.std.proofs.lemmas.Bool.{cond-false}
 use Rattle.std.proofs.lemmas.List.{length-map}
 use Rattle.clvm_spec.specs.Tree.{Tree, Atom}
 use Rattle.clvm_spec.specs.Numbers.{number}
 use Rattle.clvm_spec.specs.Arithmetic.{if_fits, is_zero, quotient}
-use Rattle.clvm_spec.specs.Outcomes.{Applied, TooWide, Fails, ZeroDivisor}
-use Rattle.clvm_spec.specs.Operators.{two_numbers, from_left, less_others, product_from, new_number, sum_cost, sum_of, difference_of, product_of, quotient_of, greater_flag, complement_of, bits_of, unless_zero, free, flag, lengths}
+use Rattle.clvm_spec.specs.Outcomes.{Applied, Fails, ZeroDivisor}
+use Rattle.clvm_spec.specs.Operators.{two_numbers, from_left, factors_cost, new_number, sum_of, difference_of, product_of, quotient_of, greater_flag, complement_of, bits_of, unless_zero, free, flag, lengths}
 use Rattle.clvm_tree.specs.Operators.{trees_at}
 use Rattle.clvm_tree.specs.declared.Node.{Node}
 use Rattle.clvm_ops.specs.OperandAtoms.{bytes_of, atoms_at, HaveNumbers}
@@ -16,7 +16,7 @@ use Rattle.clvm_ops.specs.Folds.{numbers_at, held_from_left, held_difference, he
 use Rattle.clvm_ops.specs.Answering.{number_or_wide}
 use Rattle.clvm_ops.specs.declared.folds.Product.{Product}
 use Rattle.clvm_ops.proofs.Answered.{number_or_wide-if_fits}
-use Rattle.clvm_ops.proofs.FoldLaws.{or_wide, from_left_is, less_others_is, product_or_wide, product_from_is}
+use Rattle.clvm_ops.proofs.FoldLaws.{or_wide, from_left_is, difference_is, product_or_wide, product_is}
 use Rattle.clvm_ops.proofs.NodeLists.{length-trees_at}
 use Rattle.clvm_ops.proofs.ReadLaws.{number_read}
 
@@ -26,6 +26,9 @@ count_atoms trees nodes = length-map (trees_at trees nodes) bytes_of ∙ length-
 wide_or : (cost : ℕ) (held : Option ℤ) → or_wide held (new_number cost) ≡ number_or_wide cost held
 wide_or cost None = refl
 wide_or cost (Some n) = refl
+
+abbrev sum_cost : List (List ℕ) → ℕ
+sum_cost atoms = 99 + 320 * length atoms + 3 * lengths atoms
 
 sum_cost_is : (trees : List Tree) (operands : List Node) (size : ℕ) → HaveNumbers trees operands size → sum_cost (atoms_at trees operands) ≡ 99 + 320 * length operands + 3 * size
 sum_cost_is trees operands size have = omega (arith, have.size_is, count_atoms trees operands)
@@ -42,13 +45,15 @@ pub difference_of_is : (trees : List Tree) (operands : List Node) (size : ℕ) (
     → difference_of (trees_at trees operands) ≡ number_or_wide (99 + 320 * length operands + 3 * size) difference
 difference_of_is trees operands size difference have is =
     let atoms = atoms_at trees operands in
-    have.read (λ atoms. less_others (map number atoms) (new_number (sum_cost atoms)))
-    ∙ less_others_is (map number atoms) (new_number (sum_cost atoms)) ∙ wide_or (sum_cost atoms) (held_difference (map number atoms))
+    have.read (λ atoms. from_left ◌-ℤ◌ (number (get_or atoms 0 [])) (map number (drop 1 atoms)) (new_number (sum_cost atoms)))
+    ∙ difference_is atoms (new_number (sum_cost atoms)) ∙ wide_or (sum_cost atoms) (held_difference (map number atoms))
     ∙ ap₂ number_or_wide (sum_cost_is trees operands size have) (sym is)
 
 pub product_of_is : (trees : List Tree) (operands : List Node) (size : ℕ) (product : Option Product) → HaveNumbers trees operands size → product ≡ held_product (atoms_at trees operands)
     → product_of (trees_at trees operands) ≡ product_or_wide product
-product_of_is trees operands size product have is = have.read product_from ∙ product_from_is (atoms_at trees operands) ∙ ap product_or_wide (sym is)
+product_of_is trees operands size product have is =
+    have.read (λ atoms. let first = get_or atoms 0 (1 ∷ []) in from_left ◌*ℤ◌ (number first) (map number (drop 1 atoms)) (new_number (92 + factors_cost (length first) (number first) (drop 1 atoms))))
+    ∙ product_is (atoms_at trees operands) ∙ ap product_or_wide (sym is)
 
 pub is_zero-false : (n : ℤ) → (cast_unsigned w128 n ≡ 0 → ⊥) → is_zero n ≡ false
 is_zero-false (pos zero) some = absurd (some refl)

@@ -1,11 +1,12 @@
 -- Parts of atoms, by what is read of the operands.
-use Rattle.std.proofs.Common.{◌≡◌, ℕ, ◌≤◌, ℤ, pos, List, [], ◌∷◌, length, sym, ap, ap₂, ◌∙◌}
+use Rattle.std.proofs.Common.{◌≡◌, ℕ, ◌≤◌, ℤ, pos, List, [], ◌∷◌, length, sym, ap, ◌∙◌}
 use Rattle.clvm_spec.specs.Tree.{Tree, Atom}
 use Rattle.clvm_spec.specs.Numbers.{number}
-use Rattle.clvm_spec.specs.Outcomes.{Applied}
-use Rattle.clvm_spec.specs.Operators.{atom_at, number_at, part, part_of}
+use Rattle.clvm_spec.specs.Outcomes.{Applied, Enough}
+use Rattle.clvm_spec.specs.Operators.{atom_at, number_at, part_of}
 use Rattle.clvm_tree.specs.Operators.{IsOpFault}
 use Rattle.clvm_tree.specs.declared.operators.OpFault.{OpFault}
+use Rattle.clvm_ops.specs.Answering.{part}
 use Rattle.clvm_ops.specs.OperandAtoms.{bytes_of}
 use Rattle.clvm_ops.proofs.Answered.{fault_same}
 use Rattle.clvm_ops.proofs.ReadLaws.{number_read}
@@ -15,8 +16,8 @@ part_same a atom s m e n is start end =
     ap (λ t. part (bytes_of t) s e) (sym is) ∙ ap (λ k. part (bytes_of atom) k e) (sym start) ∙ ap (part (bytes_of atom) m) (sym end)
 
 -- two operands
-pub start_bad : (trees : List Tree) (atom start : Tree) (a : List ℕ) (f : OpFault) → atom ≡ Atom a → ((go : List ℕ → Applied) → IsOpFault trees (number_at 1 start go) f)
-    → IsOpFault trees (part_of (atom ∷ start ∷ [])) f
+pub start_bad : (trees : List Tree) (atom start : Tree) (a : List ℕ) (f : OpFault) → atom ≡ Atom a → ((go : List ℕ → Applied) → IsOpFault trees (Enough (number_at 1 start go)) f)
+    → IsOpFault trees (Enough (part_of (atom ∷ start ∷ []))) f
 start_bad trees atom start a f is bad =
     fault_same trees _ _ f (ap (λ t. atom_at 0 t (λ a. number_at 1 start (λ start. part a (number start) (pos (length a))))) is) (bad (λ start. part a (number start) (pos (length a))))
 
@@ -31,13 +32,13 @@ part_from_is atom start a s m n is start_is short first last =
 abbrev behind_atom : Tree → Tree → List ℕ → Applied
 behind_atom start end a = number_at 1 start (λ start. number_at 2 end (λ end. part a (number start) (number end)))
 
-pub start_before_end_bad : (trees : List Tree) (atom start end : Tree) (a : List ℕ) (f : OpFault) → atom ≡ Atom a → ((go : List ℕ → Applied) → IsOpFault trees (number_at 1 start go) f)
-    → IsOpFault trees (part_of (atom ∷ start ∷ end ∷ [])) f
+pub start_before_end_bad : (trees : List Tree) (atom start end : Tree) (a : List ℕ) (f : OpFault) → atom ≡ Atom a → ((go : List ℕ → Applied) → IsOpFault trees (Enough (number_at 1 start go)) f)
+    → IsOpFault trees (Enough (part_of (atom ∷ start ∷ end ∷ []))) f
 start_before_end_bad trees atom start end a f is bad =
     fault_same trees _ _ f (ap (λ t. atom_at 0 t (behind_atom start end)) is) (bad (λ start. number_at 2 end (λ end. part a (number start) (number end))))
 
-pub end_bad : (trees : List Tree) (atom start end : Tree) (a s : List ℕ) (f : OpFault) → atom ≡ Atom a → start ≡ Atom s → length s ≤ 16 → ((go : List ℕ → Applied) → IsOpFault trees (number_at 2 end go) f)
-    → IsOpFault trees (part_of (atom ∷ start ∷ end ∷ [])) f
+pub end_bad : (trees : List Tree) (atom start end : Tree) (a s : List ℕ) (f : OpFault) → atom ≡ Atom a → start ≡ Atom s → length s ≤ 16 → ((go : List ℕ → Applied) → IsOpFault trees (Enough (number_at 2 end go)) f)
+    → IsOpFault trees (Enough (part_of (atom ∷ start ∷ end ∷ []))) f
 end_bad trees atom start end a s f is start_is short bad =
     fault_same trees _ _ f (ap (λ t. atom_at 0 t (behind_atom start end)) is ∙ number_read 1 start s (λ start. number_at 2 end (λ end. part a (number start) (number end))) start_is short)
     (bad (λ end. part a (number s) (number end)))

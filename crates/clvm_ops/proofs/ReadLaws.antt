@@ -1,13 +1,13 @@
 -- How operands are read, from the first to the last.
-use Rattle.std.proofs.Common.{◌≡◌, ℕ, zero, suc, ◌+◌, ◌-◌, ◌*◌, ◌^◌, ◌<◌, ◌≤◌, Bool, true, false, cond, List, [], ◌∷◌, ◌++◌, length, get_or, take, map, refl, sym, ap, ap₂, ◌∙◌, arith}
+use Rattle.std.proofs.Common.{◌≡◌, ℕ, zero, suc, ◌+◌, ◌*◌, ◌^◌, ◌<◌, ◌≤◌, true, List, [], ◌∷◌, length, get_or, take, map, refl, sym, ap, ap₂, ◌∙◌, arith}
 use Rattle.std.specs.List.{All}
-use Rattle.std.proofs.lemmas.Bool.{cond-true, cond-false, le-ltb, lt-ltb, le-leb}
-use Rattle.std.proofs.lemmas.List.{take_more, take_all, map_more, get_or-map, length-map}
+use Rattle.std.proofs.lemmas.Bool.{cond-false, le-ltb, le-leb}
+use Rattle.std.proofs.lemmas.List.{take_all, get_or-map, length-map}
 use Rattle.std.proofs.lemmas.List.Elements.{All-more, All-map, All-weaker}
 use Rattle.std.proofs.lemmas.List.Sums.{sum_by_more}
-use Rattle.clvm_spec.specs.Tree.{Tree, Atom, Pair, nil}
-use Rattle.clvm_spec.specs.Outcomes.{Applied, Fails, TooWide, WrongOperand}
-use Rattle.clvm_spec.specs.Operators.{atom_at, if_short, number_at, two_atoms, two_numbers, atoms, atoms_from, numbers, numbers_from, lengths, is_pair}
+use Rattle.clvm_spec.specs.Tree.{Tree, Atom, nil}
+use Rattle.clvm_spec.specs.Outcomes.{Applied, TooWide, Enough}
+use Rattle.clvm_spec.specs.Operators.{atom_at, number_at, two_atoms, two_numbers, atoms, atoms_from, numbers, numbers_from, lengths}
 use Rattle.clvm_tree.specs.Nodes.{tree_at}
 use Rattle.clvm_tree.specs.Operators.{trees_at, IsOpFault}
 use Rattle.clvm_tree.specs.declared.Node.{Node}
@@ -18,23 +18,23 @@ use Rattle.clvm_ops.proofs.Answered.{fault_same}
 pub number_read : (place : ℕ) (tree : Tree) (bytes : List ℕ) (go : List ℕ → Applied) → tree ≡ Atom bytes → length bytes ≤ 16 → number_at place tree go ≡ go bytes
 number_read place tree bytes go e short = ap (λ t. number_at place t go) e ∙ cond-false _ TooWide (go bytes) (le-ltb 16 (length bytes) short)
 
-pub first_atom_bad : (trees operands : List Tree) (a b : Tree) (f : OpFault) → operands ≡ a ∷ b ∷ [] → ((go : List ℕ → Applied) → IsOpFault trees (atom_at 0 a go) f)
-    → (go : List ℕ → List ℕ → Applied) → IsOpFault trees (two_atoms operands go) f
+pub first_atom_bad : (trees operands : List Tree) (a b : Tree) (f : OpFault) → operands ≡ a ∷ b ∷ [] → ((go : List ℕ → Applied) → IsOpFault trees (Enough (atom_at 0 a go)) f)
+    → (go : List ℕ → List ℕ → Applied) → IsOpFault trees (Enough (two_atoms operands go)) f
 first_atom_bad trees operands a b f list bad go = fault_same trees _ _ f (ap (λ ts. two_atoms ts go) list) (bad (λ x. atom_at 1 b (λ y. go x y)))
 
-pub second_atom_bad : (trees operands : List Tree) (a b : Tree) (bytes : List ℕ) (f : OpFault) → operands ≡ a ∷ b ∷ [] → a ≡ Atom bytes → ((go : List ℕ → Applied) → IsOpFault trees (atom_at 1 b go) f)
-    → (go : List ℕ → List ℕ → Applied) → IsOpFault trees (two_atoms operands go) f
+pub second_atom_bad : (trees operands : List Tree) (a b : Tree) (bytes : List ℕ) (f : OpFault) → operands ≡ a ∷ b ∷ [] → a ≡ Atom bytes → ((go : List ℕ → Applied) → IsOpFault trees (Enough (atom_at 1 b go)) f)
+    → (go : List ℕ → List ℕ → Applied) → IsOpFault trees (Enough (two_atoms operands go)) f
 second_atom_bad trees operands a b bytes f list is bad go = fault_same trees _ _ f (ap (λ ts. two_atoms ts go) (list ∙ ap (λ t. t ∷ b ∷ []) is)) (bad (λ y. go bytes y))
 
 pub two_atoms_read : (operands : List Tree) (a b : Tree) (x y : List ℕ) → operands ≡ a ∷ b ∷ [] → a ≡ Atom x → b ≡ Atom y → (go : List ℕ → List ℕ → Applied) → two_atoms operands go ≡ go x y
 two_atoms_read operands a b x y list first second go = ap (λ ts. two_atoms ts go) (list ∙ ap₂ (λ s t. s ∷ t ∷ []) first second)
 
-pub first_number_bad : (trees operands : List Tree) (a b : Tree) (f : OpFault) → operands ≡ a ∷ b ∷ [] → ((go : List ℕ → Applied) → IsOpFault trees (number_at 0 a go) f)
-    → (go : List ℕ → List ℕ → Applied) → IsOpFault trees (two_numbers operands go) f
+pub first_number_bad : (trees operands : List Tree) (a b : Tree) (f : OpFault) → operands ≡ a ∷ b ∷ [] → ((go : List ℕ → Applied) → IsOpFault trees (Enough (number_at 0 a go)) f)
+    → (go : List ℕ → List ℕ → Applied) → IsOpFault trees (Enough (two_numbers operands go)) f
 first_number_bad trees operands a b f list bad go = fault_same trees _ _ f (ap (λ ts. two_numbers ts go) list) (bad (λ x. number_at 1 b (λ y. go x y)))
 
 pub second_number_bad : (trees operands : List Tree) (a b : Tree) (bytes : List ℕ) (f : OpFault) → operands ≡ a ∷ b ∷ [] → a ≡ Atom bytes → length bytes ≤ 16
-    → ((go : List ℕ → Applied) → IsOpFault trees (number_at 1 b go) f) → (go : List ℕ → List ℕ → Applied) → IsOpFault trees (two_numbers operands go) f
+    → ((go : List ℕ → Applied) → IsOpFault trees (Enough (number_at 1 b go)) f) → (go : List ℕ → List ℕ → Applied) → IsOpFault trees (Enough (two_numbers operands go)) f
 second_number_bad trees operands a b bytes f list is short bad go =
     fault_same trees _ _ f (ap (λ ts. two_numbers ts go) list ∙ number_read 0 a bytes (λ x. number_at 1 b (λ y. go x y)) is short) (bad (λ y. go bytes y))
 
@@ -56,7 +56,7 @@ all_atoms place (tree ∷ trees) go all =
 
 -- where the operands before it are atoms
 atom_bad : (known trees : List Tree) (place i at : ℕ) (f : OpFault) → at ≡ place + i → i < length trees → All IsAtomOf (take i trees)
-    → ((go : List ℕ → Applied) → IsOpFault known (atom_at at (get_or trees i nil) go) f) → (go : List (List ℕ) → Applied) → IsOpFault known (atoms_from place trees go) f
+    → ((go : List ℕ → Applied) → IsOpFault known (Enough (atom_at at (get_or trees i nil) go)) f) → (go : List (List ℕ) → Applied) → IsOpFault known (Enough (atoms_from place trees go)) f
 atom_bad known [] place i at f e h all bad go = absurd (omega arith)
 atom_bad known (tree ∷ trees) place zero at f e h all bad go =
     let same : place ≡ at = omega arith in
@@ -95,7 +95,7 @@ atoms_more trees operands place size d bytes h is short before =
     }
 
 pub atoms_bad : (trees : List Tree) (operands : List Node) (place size : ℕ) (d : Node) (f : OpFault) → place < length operands → AtomsBefore trees operands place size
-    → ((go : List ℕ → Applied) → IsOpFault trees (atom_at place (tree_at trees (get_or operands place d).0) go) f) → (go : List (List ℕ) → Applied) → IsOpFault trees (atoms (trees_at trees operands) go) f
+    → ((go : List ℕ → Applied) → IsOpFault trees (Enough (atom_at place (tree_at trees (get_or operands place d).0) go)) f) → (go : List (List ℕ) → Applied) → IsOpFault trees (Enough (atoms (trees_at trees operands) go)) f
 atoms_bad trees operands place size d f h before bad go =
     let count = length-map operands (λ (node : Node). tree_at trees node.0) in
     atom_bad trees (trees_at trees operands) 0 place place f (omega arith) (omega arith) before.all (λ go. fault_same trees _ _ f (ap (λ t. atom_at place t go) (tree_read trees operands place d h)) (bad go)) go
@@ -126,7 +126,7 @@ all_numbers place (tree ∷ trees) go all =
 
 -- where the operands before it are numbers
 number_bad : (known trees : List Tree) (place i at : ℕ) (f : OpFault) → at ≡ place + i → i < length trees → All IsNumberOf (take i trees)
-    → ((go : List ℕ → Applied) → IsOpFault known (number_at at (get_or trees i nil) go) f) → (go : List (List ℕ) → Applied) → IsOpFault known (numbers_from place trees go) f
+    → ((go : List ℕ → Applied) → IsOpFault known (Enough (number_at at (get_or trees i nil) go)) f) → (go : List (List ℕ) → Applied) → IsOpFault known (Enough (numbers_from place trees go)) f
 number_bad known [] place i at f e h all bad go = absurd (omega arith)
 number_bad known (tree ∷ trees) place zero at f e h all bad go =
     let same : place ≡ at = omega arith in
@@ -157,7 +157,7 @@ numbers_more trees operands place size d bytes h is short before =
     }
 
 pub numbers_bad : (trees : List Tree) (operands : List Node) (place size : ℕ) (d : Node) (f : OpFault) → place < length operands → NumbersBefore trees operands place size
-    → ((go : List ℕ → Applied) → IsOpFault trees (number_at place (tree_at trees (get_or operands place d).0) go) f) → (go : List (List ℕ) → Applied) → IsOpFault trees (numbers (trees_at trees operands) go) f
+    → ((go : List ℕ → Applied) → IsOpFault trees (Enough (number_at place (tree_at trees (get_or operands place d).0) go)) f) → (go : List (List ℕ) → Applied) → IsOpFault trees (Enough (numbers (trees_at trees operands) go)) f
 numbers_bad trees operands place size d f h before bad go =
     let count = length-map operands (λ (node : Node). tree_at trees node.0) in
     number_bad trees (trees_at trees operands) 0 place place f (omega arith) (omega arith) before.all (λ go. fault_same trees _ _ f (ap (λ t. number_at place t go) (tree_read trees operands place d h)) (bad go)) go

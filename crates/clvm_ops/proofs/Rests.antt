@@ -1,10 +1,10 @@
 -- What a division rounded down leaves, by the remainder that isn't negative.
-use Rattle.std.proofs.Common.{◌≡◌, ℕ, zero, suc, ◌+◌, ◌-◌, ◌*◌, ◌/◌, ◌%◌, ◌<◌, ℤ, pos, negsuc, neg_ℤ, ◌+ℤ◌, ◌-ℤ◌, ◌*ℤ◌, ◌<ℤ◌, ◌≤ℤ◌, true, false, cond, refl, sym, ap, ◌∙◌, arith}
+use Rattle.std.proofs.Common.{◌≡◌, ℕ, zero, suc, ◌+◌, ◌-◌, ◌*◌, ◌/◌, ◌%◌, ◌<◌, ℤ, pos, negsuc, neg_ℤ, ◌+ℤ◌, ◌-ℤ◌, ◌*ℤ◌, ◌<ℤ◌, false, cond, refl, sym, ap, ◌∙◌, arith}
 use Rattle.std.proofs.lemmas.Nat.{div-add-mod'}
 use Rattle.std.proofs.lemmas.Int.{ints}
 use Rattle.std.specs.Int.{int_div_euclid, int_rem_euclid}
 use lib.IntN.{pred_ℤ, pred_ℤ-*ℤ, *ℤ_comm, -ℤ_one}
-use Rattle.clvm_spec.specs.Arithmetic.{is_zero, quotient, remainder}
+use Rattle.clvm_spec.specs.Arithmetic.{is_zero, remainder}
 use Rattle.clvm_spec.proofs.Floor.{lowered, quotient_lowered}
 
 by_both : (a b q r : ℕ) → q * suc b + r ≡ a → pos a -ℤ pos (suc b * q) ≡ pos r

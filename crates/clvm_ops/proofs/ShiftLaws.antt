@@ -1,13 +1,19 @@
 -- Shifts either way.
-use Rattle.std.proofs.Common.{◌≡◌, ℕ, zero, suc, ◌+◌, ◌-◌, ◌*◌, ◌/◌, ◌^◌, ◌<◌, ◌≤◌, ℤ, pos, negsuc, neg_ℤ, ◌*ℤ◌, ◌<ℤ◌, ◌≤ℤ◌, Bool, true, false, cond, Option, Some, None, List, length, FitsSigned, to_z, of_z, refl, sym, ap, ap₂, ◌∙◌, arith}
+use Rattle.std.proofs.Common.{◌≡◌, ℕ, ◌+◌, ◌*◌, ℤ, pos, true, cond, Option, List, length, sym, ap, ap₂, ◌∙◌}
 use Rattle.std.proofs.lemmas.Bool.{cond-true}
 use Rattle.clvm_spec.specs.Tree.{Tree}
-use Rattle.clvm_spec.specs.Numbers.{number, unsigned}
+use Rattle.clvm_spec.specs.Numbers.{number, unsigned, shortest_atom}
 use Rattle.clvm_spec.specs.Arithmetic.{if_fits, is_shift, shifted}
 use Rattle.clvm_spec.specs.Outcomes.{Applied, Fails, WrongShift}
-use Rattle.clvm_spec.specs.Operators.{two_numbers, shift, shifted_number, shift_of_number, shift_of_bits}
+use Rattle.clvm_spec.specs.Operators.{two_numbers, new_number, shift_of_number, shift_of_bits}
 use Rattle.clvm_ops.specs.Answering.{shifted_or_wide}
 use Rattle.clvm_ops.proofs.Answered.{shifted_or_wide-if_fits}
+
+abbrev shifted_number : (cost size : ℕ) → ℤ → Applied
+shifted_number cost size n = new_number (cost + 3 * (size + length (shortest_atom n))) n
+
+abbrev shift : (cost size : ℕ) (n by : ℤ) → Applied
+shift cost size n by = cond (is_shift by) (shifted_number cost size (shifted n by)) (Fails WrongShift)
 
 shift_held : (cost size : ℕ) (n by : ℤ) (result : Option ℤ) → is_shift by ≡ true → result ≡ if_fits (shifted n by) → shift cost size n by ≡ shifted_or_wide cost size result
 shift_held cost size n by result fair is =

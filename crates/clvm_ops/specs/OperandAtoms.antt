@@ -1,5 +1,5 @@
 -- The atoms of the operands, as the operators read them. This project's own.
-use Rattle.std.specs.Prelude.{◌≡◌, ℕ, ◌*◌, ◌^◌, ◌≤◌, Bool, true, false, List, [], length, map, nat_le}
+use Rattle.std.specs.Prelude.{◌≡◌, ℕ, ◌*◌, ◌^◌, ◌≤◌, Bool, true, List, [], length, map, nat_le}
 use Rattle.std.specs.List.{All}
 use Rattle.clvm_spec.specs.Tree.{Tree, Atom, Pair}
 use Rattle.clvm_spec.specs.Outcomes.{Applied}

@@ -3,7 +3,7 @@
 ghost use Rattle.std.specs.Prelude.{◌≡◌, ◌≢◌, ◌+◌, ◌<◌, ◌^◌, List, [], ◌∷◌, length, IfSome, IfNone};
 ghost use Rattle.clvm_spec.specs.declared.fuel.Fuel.{Fuel};
 ghost use Rattle.clvm_spec.specs.Tree.{Tree, Atom};
-ghost use Rattle.clvm_spec.specs.Outcomes.{Fails, NoOperator};
+ghost use Rattle.clvm_spec.specs.Outcomes.{Fails, NoOperator, Enough};
 ghost use Rattle.clvm_spec.specs.OperatorTable.{applied};
 ghost use Rattle.clvm_tree.specs.Nodes.{tree_at, IsKnown, AreKnown};
 ghost use Rattle.clvm_tree.specs.Operators.{trees_at, outcome_by};
@@ -48,7 +48,7 @@ fn code_of(trees: &Trees, code: Node) -> Option<u8>
     requires { IsKnown trees.now code.0 }
     ensures some { IfSome result (λ byte. tree_at trees.now code.0 ≡ Atom (byte ∷ [])) }
     ensures none { IfNone result ((operands : List Tree) (left : Fuel) →
-        outcome_by (tree_at trees.now code.0) operands left ≡ Fails NoOperator) }
+        outcome_by (tree_at trees.now code.0) operands left ≡ Enough (Fails NoOperator)) }
 {
     match trees.look(code) {
         Sight::Bytes(bytes) => one_byte(bytes),

@@ -4,18 +4,17 @@ ghost use Rattle.std.specs.Prelude.{◌≡◌, ℕ, ◌+◌, ◌<◌, ◌≤◌,
 ghost use Rattle.clvm_spec.specs.Tree.{Atom, Pair};
 ghost use Rattle.clvm_spec.specs.Numbers.{shortest_atom};
 ghost use Rattle.clvm_spec.specs.Arithmetic.{is_zero, quotient, remainder};
-ghost use Rattle.clvm_spec.specs.Operators.{pair_of_atoms, pair_of_numbers, quotient_and_remainder};
+ghost use Rattle.clvm_spec.specs.Operators.{written_pair, new_pair_of_numbers, quotient_and_remainder};
 ghost use Rattle.clvm_tree.specs.Nodes.{tree_at, IsKnown, AreKnown, Grows};
 ghost use Rattle.clvm_tree.specs.Operators.{trees_at};
 ghost use Rattle.clvm_ops.specs.Answering.{Answers};
 
 use crate::arithmetic::remainder_of;
-use crate::digits::number;
 use crate::folds::number_length;
 use crate::give::charged;
 use crate::operands::two_numbers;
 use clvm_spec::arithmetic;
-use clvm_tree::{Answer, Fuel, Node, OpFault, OutOfMemory, Trees};
+use clvm_tree::{Answer, Fuel, Node, OpFault, OutOfMemory, Trees, number};
 use std::alloc::Global;
 
 pub(crate) fn quotient_and_remainder(
@@ -51,7 +50,7 @@ fn give_division(
     requires cost { cost < 2 ^ 127 }
     requires fits { length trees.old + left.pairs + left.bytes < 2 ^ 31 }
     ensures { (operands : ℕ) → Answers trees.old trees.new operands left
-        (pair_of_numbers cost (quotient number divisor) (remainder number divisor)) result }
+        (new_pair_of_numbers cost (quotient number divisor) (remainder number divisor)) result }
 {
     match arithmetic::quotient_of(number, divisor) {
         Some(quotient) => {
@@ -74,7 +73,7 @@ fn give_two(
     requires cost { cost < 2 ^ 127 }
     requires fits { length trees.old + left.pairs + left.bytes < 2 ^ 31 }
     ensures { (operands : ℕ) → Answers trees.old trees.new operands left
-        (pair_of_atoms cost (shortest_atom first) (shortest_atom second)) result }
+        (written_pair cost (shortest_atom first) (shortest_atom second)) result }
 {
     let size = (number_length(first) + number_length(second)) as u128;
     let charge = charged(left, cost + 10 * size, 1, size + 16)?;

@@ -3,7 +3,6 @@
 
 mod arithmetic;
 mod core_ops;
-mod digits;
 mod division;
 mod folds;
 mod give;

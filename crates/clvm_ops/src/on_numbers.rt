@@ -8,12 +8,11 @@ ghost use Rattle.clvm_tree.specs.Operators.{trees_at};
 ghost use Rattle.clvm_ops.specs.Answering.{Answers};
 ghost use Rattle.clvm_ops.specs.Folds.{bit_step, bit_none};
 
-use crate::digits::number;
 use crate::folds::{BitStep, difference, plus_others, whole_product};
 use crate::give::{give_flag, give_if_held, give_number};
 use crate::operands::{number_at, numbers, two_numbers};
 use clvm_spec::arithmetic;
-use clvm_tree::{Answer, Fuel, Node, OpFault, Trees};
+use clvm_tree::{Answer, Fuel, Node, OpFault, Trees, number};
 use std::alloc::Global;
 
 pub(crate) fn sum_of(

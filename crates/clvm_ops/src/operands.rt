@@ -2,7 +2,7 @@
 
 ghost use Rattle.std.specs.Prelude.{◌≡◌, ℕ, ◌<◌, ◌≤◌, ◌^◌, List, length, IfOk, IfErr};
 ghost use Rattle.clvm_spec.specs.Tree.{Atom};
-ghost use Rattle.clvm_spec.specs.Outcomes.{Applied};
+ghost use Rattle.clvm_spec.specs.Outcomes.{Applied, Enough};
 ghost use Rattle.clvm_spec.specs.Operators.{atom_at, number_at, atoms, numbers, two_atoms, two_numbers};
 ghost use Rattle.clvm_tree.specs.Nodes.{tree_at, IsKnown, AreKnown};
 ghost use Rattle.clvm_tree.specs.Operators.{trees_at, IsOpFault};
@@ -26,7 +26,7 @@ pub(crate) fn atom_at(trees: &Trees, place: u32, operand: Node) -> Result<&[u8],
     requires { IsKnown trees.now operand.0 }
     ensures ok { IfOk result (λ bytes. tree_at trees.now operand.0 ≡ Atom bytes.now) }
     ensures err { IfErr result (λ fault. (go : List ℕ → Applied) →
-        IsOpFault trees.now (atom_at place (tree_at trees.now operand.0) go) fault) }
+        IsOpFault trees.now (Enough (atom_at place (tree_at trees.now operand.0) go)) fault) }
 {
     match trees.look(operand) {
         Sight::Bytes(bytes) => Ok(bytes),
@@ -40,7 +40,7 @@ pub(crate) fn number_at(trees: &Trees, place: u32, operand: Node) -> Result<&[u8
     ensures ok { IfOk result (λ bytes. tree_at trees.now operand.0 ≡ Atom bytes.now) }
     ensures short { IfOk result (λ bytes. length bytes.now ≤ 16) }
     ensures err { IfErr result (λ fault. (go : List ℕ → Applied) →
-        IsOpFault trees.now (number_at place (tree_at trees.now operand.0) go) fault) }
+        IsOpFault trees.now (Enough (number_at place (tree_at trees.now operand.0) go)) fault) }
 {
     let bytes = atom_at(trees, place, operand)?;
     if bytes.len() > 16 {
@@ -58,7 +58,7 @@ pub(crate) fn two_atoms<'a>(
     ensures ok { IfOk result (λ pair. (go : List ℕ → List ℕ → Applied) →
         two_atoms (trees_at trees.now operands.now) go ≡ go pair.0.now pair.1.now) }
     ensures err { IfErr result (λ fault. (go : List ℕ → List ℕ → Applied) →
-        IsOpFault trees.now (two_atoms (trees_at trees.now operands.now) go) fault) }
+        IsOpFault trees.now (Enough (two_atoms (trees_at trees.now operands.now) go)) fault) }
 {
     let [first, second] = operands else {
         return Err(OpFault::Count);
@@ -79,7 +79,7 @@ pub(crate) fn two_numbers<'a>(
     ensures first_short { IfOk result (λ pair. length pair.0.now ≤ 16) }
     ensures second_short { IfOk result (λ pair. length pair.1.now ≤ 16) }
     ensures err { IfErr result (λ fault. (go : List ℕ → List ℕ → Applied) →
-        IsOpFault trees.now (two_numbers (trees_at trees.now operands.now) go) fault) }
+        IsOpFault trees.now (Enough (two_numbers (trees_at trees.now operands.now) go)) fault) }
 {
     let [first, second] = operands else {
         return Err(OpFault::Count);
@@ -95,7 +95,7 @@ pub(crate) fn atoms(trees: &Trees, operands: &[Node]) -> Result<u128, OpFault>
     requires few { length operands.now < 2 ^ 31 }
     ensures ok { IfOk result (HaveAtoms trees.now operands.now) }
     ensures err { IfErr result (λ fault. (go : List (List ℕ) → Applied) →
-        IsOpFault trees.now (atoms (trees_at trees.now operands.now) go) fault) }
+        IsOpFault trees.now (Enough (atoms (trees_at trees.now operands.now) go)) fault) }
 {
     let mut size = 0;
     for (place, operand) in operands.iter().enumerate() {
@@ -110,7 +110,7 @@ pub(crate) fn numbers(trees: &Trees, operands: &[Node]) -> Result<u128, OpFault>
     requires few { length operands.now < 2 ^ 31 }
     ensures ok { IfOk result (HaveNumbers trees.now operands.now) }
     ensures err { IfErr result (λ fault. (go : List (List ℕ) → Applied) →
-        IsOpFault trees.now (numbers (trees_at trees.now operands.now) go) fault) }
+        IsOpFault trees.now (Enough (numbers (trees_at trees.now operands.now) go)) fault) }
 {
     let mut size = 0;
     for (place, operand) in operands.iter().enumerate() {

@@ -2,16 +2,15 @@
 
 ghost use Rattle.std.specs.Prelude.{◌≡◌, ℕ, ◌+◌, ◌<◌, ◌^◌, [], ◌∷◌, length};
 ghost use Rattle.std.specs.Option.{option_copied};
-ghost use Rattle.clvm_spec.specs.Operators.{part, part_of};
+ghost use Rattle.clvm_spec.specs.Operators.{part_of};
 ghost use Rattle.clvm_tree.specs.Nodes.{tree_at, IsKnown, AreKnown};
 ghost use Rattle.clvm_tree.specs.Operators.{trees_at};
-ghost use Rattle.clvm_ops.specs.Answering.{Answers, part_given};
+ghost use Rattle.clvm_ops.specs.Answering.{Answers, part, part_given};
 ghost use Rattle.clvm_ops.specs.OperandAtoms.{bytes_of};
 
-use crate::digits::number;
 use crate::give::charged;
 use crate::operands::{atom_at, bytes_of, number_at};
-use clvm_tree::{Answer, Fuel, Node, OpFault, Trees};
+use clvm_tree::{Answer, Fuel, Node, OpFault, Trees, number};
 use std::alloc::Global;
 
 pub(crate) fn part_of(

@@ -7,12 +7,11 @@ ghost use Rattle.clvm_tree.specs.Operators.{trees_at};
 ghost use Rattle.clvm_ops.specs.Answering.{Answers, shifted_or_wide};
 
 use crate::arithmetic::{bits_shifted, shifted};
-use crate::digits::{number, unsigned};
 use crate::folds::number_length;
 use crate::give::give_number;
 use crate::operands::two_numbers;
 use clvm_spec::arithmetic::is_shift_amount;
-use clvm_tree::{Answer, Fuel, Node, OpFault, Trees};
+use clvm_tree::{Answer, Fuel, Node, OpFault, Trees, number, unsigned};
 use std::alloc::Global;
 
 pub(crate) fn shift_of_number(

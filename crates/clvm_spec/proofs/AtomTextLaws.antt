@@ -1,10 +1,13 @@
 -- What is printed of an atom is one word, and its token is that atom's.
 use Rattle.std.proofs.Common.{◌≡◌, ℕ, zero, suc, ◌+◌, ◌*◌, ◌-◌, ◌/◌, ◌%◌, ◌^◌, ◌<◌, ◌≤◌, ◌==◌, ℤ, pos, negsuc, neg_ℤ, Bool, true, false, cond, ◌&&◌, nat_lt, nat_le, List, [], ◌∷◌, ◌++◌, length, map, Option, None, Some, Ok, Err, refl, sym, ◌∙◌, ap, subst, arith}
-use Rattle.std.specs.Prelude.{bytes_eq, codes, find}
-use Rattle.std.specs.List.{list_all, flat_map}
-use Rattle.std.specs.Fmt.{decimal, digits, signed_decimal, digit_glyph}
+use Rattle.std.specs.Prelude.{bytes_eq, codes, find, slice_index}
+use Rattle.std.specs.List.{list_all}
+use Rattle.std.specs.Fmt.{decimal, digits, signed_decimal}
 use Rattle.std.specs.Str.{all_ascii_digits}
-use Rattle.std.specs.Char.{is_ascii_digit, is_ascii_hexdigit}
+use Rattle.std.specs.Char.{is_ascii_digit, digit_value}
+use Rattle.std.specs.Str.Parse.{digits_value, digits_value_after, signed_digits_value}
+use Rattle.hex.specs.Hex.{IsBytes, lower_digits, encode_with, encode_lower, decode_of}
+use Rattle.hex.proofs.HexLemmas.{decode_of-encode_lower}
 use Rattle.std.specs.Int.Digits.{AllBelowBase, digits_of, number_from_digits_after}
 use Rattle.std.proofs.lemmas.Int.Digits.{all_below_base_digits_of, number_digits_of}
 use Rattle.std.proofs.lemmas.Fmt.{decimal-digits_of}
@@ -15,8 +18,8 @@ use Rattle.clvm_spec.specs.Tree.{Atom}
 use Rattle.clvm_spec.specs.Numbers.{number, unsigned, shortest_atom}
 use Rattle.clvm_spec.specs.Arithmetic.{fits_128}
 use Rattle.clvm_spec.specs.OperatorTable.{Operator, operators, operator_of, operator_named}
-use Rattle.clvm_spec.specs.Tokens.{Token, Literal, Symbol, Took, is_word_byte, begins_with_minus, without_minus, decimal_behind, is_number, number_token, hex_value, hex_bytes, hex_literal, word_token}
-use Rattle.clvm_spec.specs.Text.{hex_digits, is_short_number, atom_text, name_or_text, head_text, Parses, code_of, InList, form_at, unnamed_token}
+use Rattle.clvm_spec.specs.Tokens.{Token, Literal, Symbol, Took, is_word_byte, without_minus, is_number, number_token, hex_literal, word_token}
+use Rattle.clvm_spec.specs.Text.{is_short_number, atom_text, name_or_text, head_text, Parses, code_of, InList, form_at, unnamed_token}
 
 -- the text is a word whose token is that of the atom
 pub record IsWordOf (atom text : List ℕ) : Type 0 where
@@ -32,91 +35,85 @@ literal_word atom text w s e = record { word = w; some = s; token = Literal atom
 
 -- ---- hexadecimal
 
-abbrev IsGlyph : ℕ → ℕ → Type 0
-IsGlyph b d = (is_word_byte b ≡ true) × (is_ascii_hexdigit b ≡ true) × (hex_value b ≡ d)
+-- A digit stands in a word.
+hex_digit : (d : ℕ) → d < 16 → is_word_byte (slice_index lower_digits d) ≡ true
+hex_digit zero h = refl
+hex_digit (suc zero) h = refl
+hex_digit (suc (suc zero)) h = refl
+hex_digit (suc (suc (suc zero))) h = refl
+hex_digit (suc (suc (suc (suc zero)))) h = refl
+hex_digit (suc (suc (suc (suc (suc zero))))) h = refl
+hex_digit (suc (suc (suc (suc (suc (suc zero)))))) h = refl
+hex_digit (suc (suc (suc (suc (suc (suc (suc zero))))))) h = refl
+hex_digit (suc (suc (suc (suc (suc (suc (suc (suc zero)))))))) h = refl
+hex_digit (suc (suc (suc (suc (suc (suc (suc (suc (suc zero))))))))) h = refl
+hex_digit (suc (suc (suc (suc (suc (suc (suc (suc (suc (suc zero)))))))))) h = refl
+hex_digit (suc (suc (suc (suc (suc (suc (suc (suc (suc (suc (suc zero))))))))))) h = refl
+hex_digit (suc (suc (suc (suc (suc (suc (suc (suc (suc (suc (suc (suc zero)))))))))))) h = refl
+hex_digit (suc (suc (suc (suc (suc (suc (suc (suc (suc (suc (suc (suc (suc zero))))))))))))) h = refl
+hex_digit (suc (suc (suc (suc (suc (suc (suc (suc (suc (suc (suc (suc (suc (suc zero)))))))))))))) h = refl
+hex_digit (suc (suc (suc (suc (suc (suc (suc (suc (suc (suc (suc (suc (suc (suc (suc zero))))))))))))))) h = refl
+hex_digit (suc (suc (suc (suc (suc (suc (suc (suc (suc (suc (suc (suc (suc (suc (suc (suc d)))))))))))))))) h = absurd (omega arith)
 
-glyph_of : (d : ℕ) → d < 16 → IsGlyph (digit_glyph false d) d
-glyph_of zero h = (refl, refl, refl)
-glyph_of (suc zero) h = (refl, refl, refl)
-glyph_of (suc (suc zero)) h = (refl, refl, refl)
-glyph_of (suc (suc (suc zero))) h = (refl, refl, refl)
-glyph_of (suc (suc (suc (suc zero)))) h = (refl, refl, refl)
-glyph_of (suc (suc (suc (suc (suc zero))))) h = (refl, refl, refl)
-glyph_of (suc (suc (suc (suc (suc (suc zero)))))) h = (refl, refl, refl)
-glyph_of (suc (suc (suc (suc (suc (suc (suc zero))))))) h = (refl, refl, refl)
-glyph_of (suc (suc (suc (suc (suc (suc (suc (suc zero)))))))) h = (refl, refl, refl)
-glyph_of (suc (suc (suc (suc (suc (suc (suc (suc (suc zero))))))))) h = (refl, refl, refl)
-glyph_of (suc (suc (suc (suc (suc (suc (suc (suc (suc (suc zero)))))))))) h = (refl, refl, refl)
-glyph_of (suc (suc (suc (suc (suc (suc (suc (suc (suc (suc (suc zero))))))))))) h = (refl, refl, refl)
-glyph_of (suc (suc (suc (suc (suc (suc (suc (suc (suc (suc (suc (suc zero)))))))))))) h = (refl, refl, refl)
-glyph_of (suc (suc (suc (suc (suc (suc (suc (suc (suc (suc (suc (suc (suc zero))))))))))))) h = (refl, refl, refl)
-glyph_of (suc (suc (suc (suc (suc (suc (suc (suc (suc (suc (suc (suc (suc (suc zero)))))))))))))) h = (refl, refl, refl)
-glyph_of (suc (suc (suc (suc (suc (suc (suc (suc (suc (suc (suc (suc (suc (suc (suc zero))))))))))))))) h = (refl, refl, refl)
-glyph_of (suc (suc (suc (suc (suc (suc (suc (suc (suc (suc (suc (suc (suc (suc (suc (suc d)))))))))))))))) h = absurd (omega arith)
+hex_is_word : (bytes : List ℕ) → AllBelowBase 256 bytes → list_all is_word_byte (encode_lower bytes) ≡ true
+unfolding encode_with
+hex_is_word [] h = refl
+hex_is_word (b ∷ bytes) h = let below = h.0 in rw (hex_digit (b / 16) (omega arith), hex_digit (b % 16) (omega arith), hex_is_word bytes h.1) refl
 
-hex_step : (high low a b : ℕ) (digits rest : List ℕ) → IsGlyph high a → IsGlyph low b → hex_bytes digits ≡ Some rest → hex_bytes (high ∷ low ∷ digits) ≡ Some ((16 * a + b) ∷ rest)
-hex_step high low a b digits rest h l e = rw (h.1, h.2, l.1, l.2, e) refl
+are_bytes : (bytes : List ℕ) → AllBelowBase 256 bytes → IsBytes bytes
+are_bytes [] h i = omega arith
+are_bytes (b ∷ bytes) h zero = h.0
+are_bytes (b ∷ bytes) h (suc i) = are_bytes bytes h.1 i
 
--- digits of bytes are those bytes
-hex_of : (bytes : List ℕ) → AllBelowBase 256 bytes → (hex_bytes (flat_map hex_digits bytes) ≡ Some bytes) × (list_all is_word_byte (flat_map hex_digits bytes) ≡ true)
-hex_of [] h = (refl, refl)
-hex_of (b ∷ bytes) h =
-    let below = h.0 in
-    let high = glyph_of (b / 16) (omega arith) in
-    let low = glyph_of (b % 16) (omega arith) in
-    let more = hex_of bytes h.1 in
-    let whole : 16 * (b / 16) + b % 16 ≡ b = omega arith in (
-      hex_step (digit_glyph false (b / 16)) (digit_glyph false (b % 16)) (b / 16) (b % 16) (flat_map hex_digits bytes) bytes high low more.0 ∙ ap (λ n. Some (n ∷ bytes)) whole,
-      rw (high.0, low.0, more.1) refl,
-    )
-
-hex_word_token : (b c : ℕ) (digits bytes : List ℕ) → hex_bytes (b ∷ c ∷ digits) ≡ Some bytes → word_token (0x30 ∷ 0x78 ∷ b ∷ c ∷ digits) ≡ Ok (Literal bytes)
+hex_word_token : (b c : ℕ) (digits bytes : List ℕ) → decode_of (b ∷ c ∷ digits) ≡ Ok bytes → word_token (0x30 ∷ 0x78 ∷ b ∷ c ∷ digits) ≡ Ok (Literal bytes)
 unfolding word_token
 hex_word_token b c digits bytes e = ap hex_literal e
 
-hex_word : (b : ℕ) (bytes : List ℕ) → AllBelowBase 256 (b ∷ bytes) → IsWordOf (b ∷ bytes) (codes "0x" ++ flat_map hex_digits (b ∷ bytes))
+hex_word : (b : ℕ) (bytes : List ℕ) → AllBelowBase 256 (b ∷ bytes) → IsWordOf (b ∷ bytes) (codes "0x" ++ encode_lower (b ∷ bytes))
+unfolding encode_with
 hex_word b bytes h =
-    let read = hex_of (b ∷ bytes) h in
-    literal_word (b ∷ bytes) (codes "0x" ++ flat_map hex_digits (b ∷ bytes)) read.1 (omega arith)
-    (hex_word_token (digit_glyph false (b / 16)) (digit_glyph false (b % 16)) (flat_map hex_digits bytes) (b ∷ bytes) read.0)
+    literal_word (b ∷ bytes) (codes "0x" ++ encode_lower (b ∷ bytes)) (hex_is_word (b ∷ bytes) h) (omega arith)
+    (hex_word_token (slice_index lower_digits (b / 16)) (slice_index lower_digits (b % 16)) (encode_lower bytes) (b ∷ bytes) (decode_of-encode_lower (b ∷ bytes) (are_bytes (b ∷ bytes) h)))
 
 -- ---- decimal
 
--- A word of digits: each of its bytes stands in a word, and none is a minus.
+-- A word of digits: each of its bytes stands in a word, none is a sign, and it writes the number.
 abbrev AreDigits : List ℕ → ℕ → Type 0
-AreDigits text n = (list_all is_word_byte text ≡ true) × (is_number text ≡ true) × (without_minus text ≡ text) × (begins_with_minus text ≡ false) × (decimal_behind 0 text ≡ n) × (0 < length text)
+AreDigits text n = (list_all is_word_byte text ≡ true) × (is_number text ≡ true) × (without_minus text ≡ text) × (signed_digits_value 10 text ≡ pos n) × (digits_value 10 text ≡ n) × (0 < length text)
 
-digit_byte : (d : ℕ) → d < 10 → (is_word_byte (48 + d) ≡ true) × (is_ascii_digit (48 + d) ≡ true) × ((48 + d == 0x2d) ≡ false)
-digit_byte zero h = (refl, refl, refl)
-digit_byte (suc zero) h = (refl, refl, refl)
-digit_byte (suc (suc zero)) h = (refl, refl, refl)
-digit_byte (suc (suc (suc zero))) h = (refl, refl, refl)
-digit_byte (suc (suc (suc (suc zero)))) h = (refl, refl, refl)
-digit_byte (suc (suc (suc (suc (suc zero))))) h = (refl, refl, refl)
-digit_byte (suc (suc (suc (suc (suc (suc zero)))))) h = (refl, refl, refl)
-digit_byte (suc (suc (suc (suc (suc (suc (suc zero))))))) h = (refl, refl, refl)
-digit_byte (suc (suc (suc (suc (suc (suc (suc (suc zero)))))))) h = (refl, refl, refl)
-digit_byte (suc (suc (suc (suc (suc (suc (suc (suc (suc zero))))))))) h = (refl, refl, refl)
+digit_byte : (d : ℕ) → d < 10 → (is_word_byte (48 + d) ≡ true) × (is_ascii_digit (48 + d) ≡ true) × ((48 + d == 0x2d) ≡ false) × ((48 + d == 0x2b) ≡ false) × (digit_value (48 + d) ≡ d)
+digit_byte zero h = (refl, refl, refl, refl, refl)
+digit_byte (suc zero) h = (refl, refl, refl, refl, refl)
+digit_byte (suc (suc zero)) h = (refl, refl, refl, refl, refl)
+digit_byte (suc (suc (suc zero))) h = (refl, refl, refl, refl, refl)
+digit_byte (suc (suc (suc (suc zero)))) h = (refl, refl, refl, refl, refl)
+digit_byte (suc (suc (suc (suc (suc zero))))) h = (refl, refl, refl, refl, refl)
+digit_byte (suc (suc (suc (suc (suc (suc zero)))))) h = (refl, refl, refl, refl, refl)
+digit_byte (suc (suc (suc (suc (suc (suc (suc zero))))))) h = (refl, refl, refl, refl, refl)
+digit_byte (suc (suc (suc (suc (suc (suc (suc (suc zero)))))))) h = (refl, refl, refl, refl, refl)
+digit_byte (suc (suc (suc (suc (suc (suc (suc (suc (suc zero))))))))) h = (refl, refl, refl, refl, refl)
 digit_byte (suc (suc (suc (suc (suc (suc (suc (suc (suc (suc d)))))))))) h = absurd (omega arith)
 
-digits_are : (high : ℕ) (ds : List ℕ) → AllBelowBase 10 ds → (list_all is_word_byte (map (λ d. 48 + d) ds) ≡ true) × (all_ascii_digits (map (λ d. 48 + d) ds) ≡ true) × (decimal_behind high (map (λ d. 48 + d) ds) ≡ number_from_digits_after 10 high ds)
+digits_are : (high : ℕ) (ds : List ℕ) → AllBelowBase 10 ds → (list_all is_word_byte (map (λ d. 48 + d) ds) ≡ true) × (all_ascii_digits (map (λ d. 48 + d) ds) ≡ true) × (digits_value_after 10 high (map (λ d. 48 + d) ds) ≡ number_from_digits_after 10 high ds)
 digits_are high [] h = (refl, refl, refl)
 digits_are high (d ∷ ds) h =
     let byte = digit_byte d h.0 in
-    let more = digits_are (10 * high + d) ds h.1 in
-    let low : 48 + d - 48 ≡ d = omega arith in
-    let turned : 10 * high + d ≡ high * 10 + d = omega arith in (
+    let more = digits_are (high * 10 + d) ds h.1 in (
       rw (byte.0, more.0) refl,
       rw (byte.1, more.1) refl,
-      ap (λ n. decimal_behind (10 * high + n) (map (λ d. 48 + d) ds)) low ∙ more.2 ∙ ap (λ n. number_from_digits_after 10 n ds) turned,
+      ap (λ n. digits_value_after 10 (high * 10 + n) (map (λ d. 48 + d) ds)) byte.4 ∙ more.2,
     )
+
+-- without a sign
+signed_is : (d : ℕ) (text : List ℕ) (n : ℕ) → d < 10 → digits_value 10 ((48 + d) ∷ text) ≡ n → signed_digits_value 10 ((48 + d) ∷ text) ≡ pos n
+signed_is d text n h e = let byte = digit_byte d h in rw (byte.2, byte.3) (ap pos e)
 
 digits_word : (n : ℕ) (ds : List ℕ) → AllBelowBase 10 ds → number_from_digits_after 10 0 ds ≡ n → 0 < n → AreDigits (map (λ d. 48 + d) ds) n
 digits_word n [] h e some = absurd (omega (arith, e, some))
 digits_word n (d ∷ ds) h e some =
     let byte = digit_byte d h.0 in
     let read = digits_are 0 (d ∷ ds) h in
-    (read.0, read.1, rw byte.2 refl, byte.2, read.2 ∙ e, omega arith)
+    (read.0, read.1, rw byte.2 refl, signed_is d (map (λ d. 48 + d) ds) n h.0 (read.2 ∙ e), read.2 ∙ e, omega arith)
 
 decimal_word : (n : ℕ) → n < 2 ^ 64 → AreDigits (decimal n) n
 unfolding digits
@@ -127,7 +124,7 @@ decimal_word (suc n) small =
 
 word_pos : (n : ℕ) (text : List ℕ) → AreDigits text n → word_token text ≡ number_token (pos n)
 unfolding word_token
-word_pos n text h = rw (h.2, h.1, h.3, h.4) refl
+word_pos n text h = rw (h.2, h.1, h.3) refl
 
 word_neg : (n : ℕ) (text : List ℕ) → AreDigits text n → word_token (0x2d ∷ text) ≡ number_token (neg_ℤ (pos n))
 unfolding word_token
@@ -185,7 +182,7 @@ word_if atom false a b ha hb = hb
 -- What is printed of an atom that isn't nil is its word.
 pub atom_word : (b : ℕ) (bytes : List ℕ) → AllBelowBase 256 (b ∷ bytes) → IsWordOf (b ∷ bytes) (atom_text (b ∷ bytes))
 atom_word b bytes h =
-    word_if (b ∷ bytes) (is_short_number (b ∷ bytes)) (signed_decimal (number (b ∷ bytes))) (codes "0x" ++ flat_map hex_digits (b ∷ bytes)) (number_word (b ∷ bytes) h) (hex_word b bytes h)
+    word_if (b ∷ bytes) (is_short_number (b ∷ bytes)) (signed_decimal (number (b ∷ bytes))) (codes "0x" ++ encode_lower (b ∷ bytes)) (number_word (b ∷ bytes) h) (hex_word b bytes h)
 
 -- ---- names
 

@@ -1,6 +1,8 @@
 -- How the cases by computation are written: trees by their text, fuel by what is used of it.
 use Rattle.std.specs.Prelude.{◌≡◌, ℕ, codes, unwrap_or, option_and_then}
 use Prim.Native.String.{String}
+use Rattle.std.specs.Result.{result_ok}
+use Rattle.hex.specs.Hex.{decode_of}
 use Rattle.clvm_spec.specs.declared.fuel.Fuel.{Fuel}
 use Rattle.clvm_spec.specs.declared.fuel.Which.{Which}
 use Rattle.clvm_spec.specs.Tree.{Tree, Atom}
@@ -8,7 +10,6 @@ use Rattle.clvm_spec.specs.Outcomes.{Why, Outcome, Done, Failed, Spent, Wide}
 use Rattle.clvm_spec.specs.Evaluation.{run_outcome}
 use Rattle.clvm_spec.specs.FuelLaws.{fuel_less}
 use Rattle.clvm_spec.specs.Reading.{tree_of}
-use Rattle.clvm_spec.specs.Tokens.{hex_bytes}
 use Rattle.clvm_spec.specs.Text.{Scanned, Scans, Unreadable, Unnamed, LeftOver, scanned}
 
 -- what stands for a text that is none: no case has it as its value
@@ -26,7 +27,7 @@ tree text = form (scanned (codes text))
 
 -- the tree of a spelling in hexadecimal digits
 abbrev pub spelled : String → Tree
-spelled digits = unwrap_or (option_and_then tree_of (hex_bytes (codes digits))) unreadable_tree
+spelled digits = unwrap_or (option_and_then tree_of (result_ok (decode_of (codes digits)))) unreadable_tree
 
 abbrev pub ample : Fuel
 ample = record { cost = 11_000_000_000; pairs = 16_777_216; bytes = 134_217_728; depth = 1_048_576 }

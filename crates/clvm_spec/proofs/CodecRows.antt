@@ -1,19 +1,19 @@
 -- Hashes of known trees, and spellings at both sides of each length of a prefix. The digests are computed by an
 -- independent program.
-use Rattle.std.specs.Prelude.{◌≡◌, ℕ, List, [], ◌∷◌, ◌++◌, length, take, codes, pos, negsuc, Some, None, refl}
+use Rattle.std.specs.Prelude.{◌≡◌, ℕ, List, [], ◌∷◌, ◌++◌, length, take, codes, pos, negsuc, Some, None, Ok, refl}
 use Prim.Native.String.{String}
 use Rattle.std.proofs.Math.ListN.{replicate}
+use Rattle.hex.specs.Hex.{decode_of, decode_pairs}
 use Rattle.sha2.specs.Sha256.{sha256, digest_bytes, hash_after, compress, rounds, schedule, first_words}
 use Rattle.clvm_spec.specs.Tree.{Atom}
 use Rattle.clvm_spec.specs.Spelling.{spelling, prefix}
-use Rattle.clvm_spec.specs.Reading.{Flaw, Cut, LongSpelling, BadPrefix, Found, Faulty, tree_of, tree_at_front, token_at}
+use Rattle.clvm_spec.specs.Reading.{Flaw, Cut, LongSpelling, BadPrefix, Found, Faulty, tree_of, tree_at_front, head_at}
 use Rattle.clvm_spec.specs.Hashing.{tree_hash}
 use Rattle.clvm_spec.specs.Numbers.{number, shortest_atom, without_sign_bytes}
-use Rattle.clvm_spec.specs.Tokens.{hex_bytes}
 use Rattle.clvm_spec.proofs.Cases.{spelled}
 
 abbrev hashes : String → String → Type 0
-hashes spelling digest = Some (tree_hash (spelled spelling)) ≡ hex_bytes (codes digest)
+hashes spelling digest = Ok (tree_hash (spelled spelling)) ≡ decode_of (codes digest)
 
 hash_of_trees :
     hashes "80" "4bf5122f344554c53bde2ebb8cd2b7e3d1600ad631c385a5d7cce23c7785459a"
@@ -23,7 +23,7 @@ hash_of_trees :
     × hashes "ff0180" "ba4484b961b7a2369d948d06c55b64bdbfaffb326bc13b490ab1215dd33d8d46"
     × hashes "ff8080" "52db9ef97986e7382ef78b8eae2dacdbb2ce823ed1396a0fb2f7f120a2b40a63"
     × hashes "ff02ffff0102ff0180" "25ab054d6f91cf2b9aa6149776e6aad6353a0c6b32575768deeaf959144415d2"
-unfolding token_at tree_at_front sha256 digest_bytes hash_after compress rounds schedule first_words
+unfolding decode_pairs head_at tree_at_front sha256 digest_bytes hash_after compress rounds schedule first_words
 hash_of_trees = (refl, refl, refl, refl, refl, refl, refl)
 
 -- The longest atom of each prefix, and the shortest of the next.
@@ -70,7 +70,7 @@ long_prefixes :
     × flawed (0xf0 ∷ 0x10 ∷ 0 ∷ 0 ∷ []) 0 Cut
     × flawed (0xf7 ∷ 0xff ∷ 0xff ∷ 0xff ∷ []) 0 Cut
     × flawed (0xf0 ∷ 0x10 ∷ 0 ∷ []) 0 Cut
-unfolding token_at tree_at_front
+unfolding head_at tree_at_front
 long_prefixes = (refl, refl, refl, refl, refl, refl, refl, refl, refl, refl, refl, refl, refl, refl, refl)
 
 -- More bytes than one tree, in a pair and behind it.
@@ -81,7 +81,7 @@ pairs :
     × (tree_at_front (0xff ∷ 0xf8 ∷ 0xff ∷ []) ≡ Faulty BadPrefix (0xf8 ∷ 0xff ∷ []))
     × (tree_at_front [] ≡ Faulty Cut [])
     × (tree_at_front (0x81 ∷ []) ≡ Faulty Cut (0x81 ∷ []))
-unfolding token_at tree_at_front
+unfolding decode_pairs head_at tree_at_front
 pairs = (refl, refl, refl, refl, refl, refl)
 
 -- Numbers at the borders of one byte and of 128 bits.

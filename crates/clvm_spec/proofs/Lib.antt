@@ -1,7 +1,7 @@
 mod Rows
 mod CodecRows
 mod BorderRows
-pub mod TokenLaws
+pub mod HeadLaws
 pub mod FrontLaws
 pub mod NumberLaws
 pub mod SpellingLaws
@@ -18,6 +18,7 @@ pub mod Steady
 pub mod Steps
 pub mod OperatorCosts
 pub mod Floor
+pub mod RemainderLaws
 pub mod ScanLaws
 pub mod AtomTextLaws
 pub mod PrintedLaws

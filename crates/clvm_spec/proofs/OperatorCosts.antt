@@ -1,12 +1,12 @@
 -- Whatever an operator gives costs something.
-use Rattle.std.proofs.Common.{ℕ, suc, ◌+◌, ◌*◌, ◌≤◌, ◌+ℤ◌, ◌-ℤ◌, ◌*ℤ◌, ℤ, pos, negsuc, Bool, true, false, cond, ltb, eqb, List, [], ◌∷◌, length, Option, Some, map, subst, arith}
+use Rattle.std.proofs.Common.{ℕ, suc, ◌+◌, ◌*◌, ◌≤◌, ◌+ℤ◌, ◌-ℤ◌, ◌*ℤ◌, ℤ, pos, Bool, true, false, cond, ltb, eqb, List, [], ◌∷◌, length, get_or, drop, Option, Some, None, map, subst, arith}
 use Rattle.std.specs.Prelude.{find}
 use Rattle.clvm_spec.specs.Tree.{Tree, Atom, Pair}
-use Rattle.clvm_spec.specs.Numbers.{unsigned, number, shortest_atom}
-use Rattle.clvm_spec.specs.Arithmetic.{fits_128, shifted}
-use Rattle.clvm_spec.specs.Outcomes.{Applied, Gives, Fails, TooWide, Lacks, Why}
+use Rattle.clvm_spec.specs.Numbers.{number}
+use Rattle.clvm_spec.specs.Arithmetic.{fits_128}
+use Rattle.clvm_spec.specs.Outcomes.{Applied, Gives, Fails, TooWide, Why}
 use Rattle.clvm_spec.specs.Operators
-use Rattle.clvm_spec.specs.Operators.{one, two, three, pair_at, atom_at, if_short, number_at, atoms_from, numbers_from, new_number, from_left, less_others, times_others, product_from, part, part_within, part_of, factor_cost, sum_cost, choice, new_pair, first_of, rest_of, pair_flag, raised, equal_flag, bytes_greater_flag, hash_of, length_of, concat_of, sum_of, difference_of, product_of, quotient_of, quotient_and_remainder, greater_flag, shift_of_number, shift_of_bits, and_of, or_of, xor_of, complement_of, nil_flag, any_flag, all_flag}
+use Rattle.clvm_spec.specs.Operators.{one, two, three, pair_at, atom_at, if_short, number_at, atoms_from, numbers_from, new_number, from_left, two_or_three, number_or, part_of, choice, new_pair, first_of, rest_of, pair_flag, raised, equal_flag, bytes_greater_flag, hash_of, length_of, concat_of, sum_of, difference_of, product_of, quotient_of, quotient_and_remainder, greater_flag, shift_of_number, shift_of_bits, and_of, or_of, xor_of, complement_of, nil_flag, any_flag, all_flag}
 use Rattle.clvm_spec.specs.OperatorTable.{Operator, operators, operator_of, applied_by, applied}
 use Rattle.clvm_spec.specs.FuelLaws.{OperatorsCostSomething}
 
@@ -14,7 +14,6 @@ abbrev CostOf : Applied → Type 0
 CostOf (Gives value cost pairs bytes) = 1 ≤ cost
 CostOf (Fails why) = Unit {0}
 CostOf TooWide = Unit {0}
-CostOf (Lacks which) = Unit {0}
 
 record Costs (a : Applied) : Type 0 where
   fact : CostOf a
@@ -78,40 +77,34 @@ in_from_left : (step : ℤ → ℤ → ℤ) (so_far : ℤ) (ns : List ℤ) (go :
 in_from_left step so_far [] go p = p so_far
 in_from_left step so_far (n ∷ ns) go p = either (fits_128 (step so_far n)) _ TooWide (in_from_left step (step so_far n) ns go p) wide
 
-in_less_others : (ns : List ℤ) (go : ℤ → Applied) → ((n : ℤ) → Costs (go n)) → Costs (less_others ns go)
-in_less_others [] go p = p (pos 0)
-in_less_others (n ∷ ns) go p = in_from_left ◌-ℤ◌ n ns go p
+in_total : (step : ℤ → ℤ → ℤ) (so_far : ℤ) (ns : List ℤ) (cost : ℕ) → 1 ≤ cost → Costs (from_left step so_far ns (new_number cost))
+in_total step so_far ns cost h = in_from_left step so_far ns (new_number cost) (λ n. in_new_number cost n h)
 
-in_times_others : (cost size : ℕ) (so_far : ℤ) (atoms : List (List ℕ)) → 1 ≤ cost → Costs (times_others cost size so_far atoms)
-in_times_others cost size so_far [] h = in_new_number cost so_far h
-in_times_others cost size so_far (a ∷ atoms) h =
-    let product = so_far *ℤ number a in
-    either (fits_128 product) _ TooWide (in_times_others (cost + factor_cost size (length a)) (length (shortest_atom product)) product atoms (omega arith)) wide
+in_sum : (step : ℤ → ℤ → ℤ) (so_far : ℤ) (ns : List ℤ) (atoms : List (List ℕ)) → Costs (from_left step so_far ns (new_number (99 + 320 * length atoms + 3 * Operators.lengths atoms)))
+in_sum step so_far ns atoms = in_total step so_far ns (99 + 320 * length atoms + 3 * Operators.lengths atoms) (omega arith)
 
-in_product : (atoms : List (List ℕ)) → Costs (product_from atoms)
-in_product [] = in_new_number 92 (pos 1) (omega arith)
-in_product (a ∷ atoms) = in_times_others 92 (length a) (number a) atoms (omega arith)
+in_product : (first : List ℕ) (others : List (List ℕ)) → Costs (from_left ◌*ℤ◌ (number first) (map number others) (new_number (92 + Operators.factors_cost (length first) (number first) others)))
+in_product first others = in_total ◌*ℤ◌ (number first) (map number others) (92 + Operators.factors_cost (length first) (number first) others) (omega arith)
 
-in_part : (bytes : List ℕ) (start end : ℤ) → Costs (part bytes start end)
-in_part bytes (pos start) (pos end) = either _ _ _ (gives (omega arith)) fails
-in_part bytes (pos start) (negsuc end) = fails
-in_part bytes (negsuc start) end = fails
+in_two_or_three : (operands : List Tree) (go : Tree → Tree → Option Tree → Applied) → ((a b : Tree) (c : Option Tree) → Costs (go a b c)) → Costs (two_or_three operands go)
+in_two_or_three [] go p = fails
+in_two_or_three (a ∷ []) go p = fails
+in_two_or_three (a ∷ b ∷ []) go p = p a b None
+in_two_or_three (a ∷ b ∷ c ∷ []) go p = p a b (Some c)
+in_two_or_three (a ∷ b ∷ c ∷ d ∷ more) go p = fails
+
+in_number_or : (other : ℤ) (place : ℕ) (operand : Option Tree) (go : ℤ → Applied) → ((n : ℤ) → Costs (go n)) → Costs (number_or other place operand go)
+in_number_or other place None go p = p other
+in_number_or other place (Some operand) go p = in_number place operand _ (λ bytes. p (number bytes))
 
 in_part_of : (operands : List Tree) → Costs (part_of operands)
-in_part_of [] = fails
-in_part_of (a ∷ []) = fails
-in_part_of (a ∷ start ∷ []) = in_atom 0 a _ (λ a. in_number 1 start _ (λ start. in_part a (number start) (pos (length a))))
-in_part_of (a ∷ start ∷ end ∷ []) = in_atom 0 a _ (λ a. in_number 1 start _ (λ start. in_number 2 end _ (λ end. in_part a (number start) (number end))))
-in_part_of (a ∷ b ∷ c ∷ d ∷ more) = fails
+in_part_of operands = in_two_or_three operands _ (λ a start end. in_atom 0 a _ (λ a. in_number 1 start _ (λ start. in_number_or (pos (length a)) 2 end _ (λ end. either _ _ _ (gives (omega arith)) fails))))
 
 in_two_atoms : (operands : List Tree) (go : List ℕ → List ℕ → Applied) → ((a b : List ℕ) → Costs (go a b)) → Costs (Operators.two_atoms operands go)
 in_two_atoms operands go p = in_two operands _ (λ a b. in_atom 0 a _ (λ a. in_atom 1 b _ (λ b. p a b)))
 
 in_two_numbers : (operands : List Tree) (go : List ℕ → List ℕ → Applied) → ((a b : List ℕ) → Costs (go a b)) → Costs (Operators.two_numbers operands go)
 in_two_numbers operands go p = in_two operands _ (λ a b. in_number 0 a _ (λ a. in_number 1 b _ (λ b. p a b)))
-
-in_shift : (cost size : ℕ) (n by : ℤ) → 1 ≤ cost → Costs (Operators.shift cost size n by)
-in_shift cost size n by h = either _ _ _ (in_new_number (cost + 3 * (size + length (shortest_atom (shifted n by)))) (shifted n by) (omega arith)) fails
 
 -- each row of the table
 CostAll : List Operator → Type 0
@@ -149,11 +142,11 @@ all_cost = (
                           (
                             (λ operands. in_atoms 0 operands _ (λ atoms. gives (omega arith))),
                             (
-                              (λ operands. in_numbers 0 operands _ (λ atoms. in_from_left ◌+ℤ◌ (pos 0) (map number atoms) (new_number (sum_cost atoms)) (λ n. in_new_number (sum_cost atoms) n (omega arith)))),
+                              (λ operands. in_numbers 0 operands _ (λ atoms. in_sum ◌+ℤ◌ (pos 0) (map number atoms) atoms)),
                               (
-                                (λ operands. in_numbers 0 operands _ (λ atoms. in_less_others (map number atoms) (new_number (sum_cost atoms)) (λ n. in_new_number (sum_cost atoms) n (omega arith)))),
+                                (λ operands. in_numbers 0 operands _ (λ atoms. in_sum ◌-ℤ◌ (number (get_or atoms 0 [])) (map number (drop 1 atoms)) atoms)),
                                 (
-                                  (λ operands. in_numbers 0 operands _ in_product),
+                                  (λ operands. in_numbers 0 operands _ (λ atoms. in_product (get_or atoms 0 (1 ∷ [])) (drop 1 atoms))),
                                   (
                                     (λ operands. in_two_numbers operands _ (λ a b. either _ _ _ fails (either _ _ _ (gives (omega arith)) wide))),
                                     (
@@ -161,9 +154,9 @@ all_cost = (
                                       (
                                         (λ operands. in_two_numbers operands _ (λ a b. gives (omega arith))),
                                         (
-                                          (λ operands. in_two_numbers operands _ (λ a by. in_shift 596 (length a) (number a) (number by) (omega arith))),
+                                          (λ operands. in_two_numbers operands _ (λ a by. either _ _ _ (either _ _ _ (gives (omega arith)) wide) fails)),
                                           (
-                                            (λ operands. in_two_numbers operands _ (λ a by. in_shift 277 (length a) (pos (unsigned a)) (number by) (omega arith))),
+                                            (λ operands. in_two_numbers operands _ (λ a by. either _ _ _ (either _ _ _ (gives (omega arith)) wide) fails)),
                                             (
                                               (λ operands. in_numbers 0 operands _ (λ atoms. either _ _ _ (gives (omega arith)) wide)),
                                               (

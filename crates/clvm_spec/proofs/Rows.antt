@@ -1,27 +1,27 @@
 -- The definitions at known values.
 use Rattle.std.specs.Prelude.{◌≡◌, pos, negsuc, [], ◌∷◌, Some, refl}
 use Rattle.clvm_spec.specs.Tree.{nil}
-use Rattle.clvm_spec.specs.Reading.{tree_of, tree_at_front, token_at, Found, Faulty, Cut, LongSpelling, BadPrefix}
+use Rattle.clvm_spec.specs.Reading.{tree_of, tree_at_front, head_at, Found, Faulty, Cut, LongSpelling, BadPrefix}
 use Rattle.clvm_spec.specs.Numbers.{number, shortest_atom, without_sign_bytes}
 
 reads_80 : tree_of (0x80 ∷ []) ≡ Some nil
-unfolding token_at tree_at_front
+unfolding head_at tree_at_front
 reads_80 = refl
 
 reads_8101 : tree_at_front (0x81 ∷ 1 ∷ []) ≡ Faulty LongSpelling (0x81 ∷ 1 ∷ [])
-unfolding token_at tree_at_front
+unfolding head_at tree_at_front
 reads_8101 = refl
 
 reads_ff01 : tree_at_front (0xff ∷ 1 ∷ []) ≡ Faulty Cut []
-unfolding token_at tree_at_front
+unfolding head_at tree_at_front
 reads_ff01 = refl
 
 reads_fe : tree_at_front (0xfe ∷ []) ≡ Faulty BadPrefix (0xfe ∷ [])
-unfolding token_at tree_at_front
+unfolding head_at tree_at_front
 reads_fe = refl
 
 reads_8080 : tree_at_front (0x80 ∷ 0x80 ∷ []) ≡ Found nil (0x80 ∷ [])
-unfolding token_at tree_at_front
+unfolding head_at tree_at_front
 reads_8080 = refl
 
 number_81f9 : number (0xf9 ∷ []) ≡ negsuc 6

@@ -5,8 +5,8 @@ use Rattle.std.proofs.lemmas.List.{length-append, length-take-le, take-append-dr
 use Rattle.std.proofs.lemmas.Bool.Decides.{nat_tests}
 use Rattle.clvm_spec.specs.Tree.{Tree, Atom, Pair}
 use Rattle.clvm_spec.specs.Spelling.{prefix, atom_spelling, spelling, HasSpelling}
-use Rattle.clvm_spec.specs.Reading.{Cut, LongSpelling, BadPrefix, Token, Open, Leaf, Front, Took, Flawed, leaf, atom_behind, long_atom, behind_two, behind_three, behind_four, from_f8, from_f0, from_e0, from_c0, from_80, token_at, Found, with_first, with_both, tree_at_front}
-use Rattle.clvm_spec.proofs.PrefixLaws.{at_80, prefix_one, prefix_two, prefix_three, prefix_four, token_at-prefix}
+use Rattle.clvm_spec.specs.Reading.{Cut, LongSpelling, BadPrefix, Head, PairMark, Leaf, Beginning, Begins, Flawed, leaf, atom_behind, long_atom, behind_two, behind_three, behind_four, from_f8, from_f0, from_e0, from_c0, from_80, head_at, Found, with_first, with_both, tree_at_front}
+use Rattle.clvm_spec.proofs.PrefixLaws.{at_80, prefix_one, prefix_two, prefix_three, prefix_four, head_at-prefix}
 use Rattle.clvm_spec.proofs.FrontLaws.{front_leaf, front_open}
 
 -- ---- what is spelled is read
@@ -17,51 +17,51 @@ atom_here atom rest =
     ap (λ t. cond t (Flawed Cut) (leaf (take (length atom) (atom ++ rest)) (drop (length atom) (atom ++ rest)))) enough
     ∙ ap (λ a. leaf a (drop (length atom) (atom ++ rest))) (take_at atom rest (length atom) refl) ∙ ap (leaf atom) (drop_at atom rest (length atom) refl)
 
-one_byte : (b : ℕ) (rest : List ℕ) (test : Bool) → nat_lt b 0x80 ≡ test → token_at (cond test (b ∷ []) (0x81 ∷ b ∷ []) ++ rest) ≡ Took (Leaf (b ∷ [])) rest
-unfolding token_at
-one_byte b rest true e = ap (λ t. cond t (Took (Leaf (b ∷ [])) rest) (from_80 b rest)) e
-one_byte b rest false e = atom_here (b ∷ []) rest ∙ ap (λ t. cond t (Flawed LongSpelling) (Took (Leaf (b ∷ [])) rest)) e
+one_byte : (b : ℕ) (rest : List ℕ) (test : Bool) → nat_lt b 0x80 ≡ test → head_at (cond test (b ∷ []) (0x81 ∷ b ∷ []) ++ rest) ≡ Begins (Leaf (b ∷ [])) rest
+unfolding head_at
+one_byte b rest true e = ap (λ t. cond t (Begins (Leaf (b ∷ [])) rest) (from_80 b rest)) e
+one_byte b rest false e = atom_here (b ∷ []) rest ∙ ap (λ t. cond t (Flawed LongSpelling) (Begins (Leaf (b ∷ [])) rest)) e
 
-pub token_at-atom : (atom rest : List ℕ) → length atom < 2 ^ 27 → token_at (atom_spelling atom ++ rest) ≡ Took (Leaf atom) rest
-token_at-atom [] rest h = at_80 0x80 rest (omega arith) (omega arith) ∙ atom_here [] rest
-token_at-atom (b ∷ []) rest h = one_byte b rest (nat_lt b 0x80) refl
-token_at-atom (b ∷ c ∷ bytes) rest h =
+pub head_at-atom : (atom rest : List ℕ) → length atom < 2 ^ 27 → head_at (atom_spelling atom ++ rest) ≡ Begins (Leaf atom) rest
+head_at-atom [] rest h = at_80 0x80 rest (omega arith) (omega arith) ∙ atom_here [] rest
+head_at-atom (b ∷ []) rest h = one_byte b rest (nat_lt b 0x80) refl
+head_at-atom (b ∷ c ∷ bytes) rest h =
     let size = length (b ∷ c ∷ bytes) in
-    ap token_at (append_assoc (prefix size) (b ∷ c ∷ bytes) rest) ∙ token_at-prefix size (b ∷ c ∷ bytes ++ rest) h ∙ atom_here (b ∷ c ∷ bytes) rest
+    ap head_at (append_assoc (prefix size) (b ∷ c ∷ bytes) rest) ∙ head_at-prefix size (b ∷ c ∷ bytes ++ rest) h ∙ atom_here (b ∷ c ∷ bytes) rest
 
-pub token_at-open : (rest : List ℕ) → token_at (0xff ∷ rest) ≡ Took Open rest
-unfolding token_at
-token_at-open rest = refl
+pub head_at-open : (rest : List ℕ) → head_at (0xff ∷ rest) ≡ Begins PairMark rest
+unfolding head_at
+head_at-open rest = refl
 
 -- A spelled tree is found, whatever follows it.
 pub front-spelling : (tree : Tree) (rest : List ℕ) → HasSpelling tree → tree_at_front (spelling tree ++ rest) ≡ Found tree rest
-front-spelling (Atom bytes) rest h = front_leaf (atom_spelling bytes ++ rest) bytes rest (token_at-atom bytes rest h)
+front-spelling (Atom bytes) rest h = front_leaf (atom_spelling bytes ++ rest) bytes rest (head_at-atom bytes rest h)
 front-spelling (Pair first second) rest h =
     let behind = spelling second ++ rest in
     ap (λ s. tree_at_front (0xff ∷ s)) (append_assoc (spelling first) (spelling second) rest)
-    ∙ front_open (0xff ∷ (spelling first ++ behind)) (spelling first ++ behind) (token_at-open (spelling first ++ behind))
+    ∙ front_open (0xff ∷ (spelling first ++ behind)) (spelling first ++ behind) (head_at-open (spelling first ++ behind))
     ∙ ap (with_both tree_at_front) (front-spelling first behind h.0)
     ∙ ap (with_first first) (front-spelling second rest h.1)
 
 -- ---- what is read is spelled
 
--- how a token was spelled
-abbrev pub Spelled : List ℕ → Token → List ℕ → Type 0
-Spelled bytes Open rest = bytes ≡ 0xff ∷ rest
+-- how a head was spelled
+abbrev pub Spelled : List ℕ → Head → List ℕ → Type 0
+Spelled bytes PairMark rest = bytes ≡ 0xff ∷ rest
 Spelled bytes (Leaf atom) rest = (length atom < 2 ^ 27) × (bytes ≡ atom_spelling atom ++ rest)
 
-abbrev pub Says : List ℕ → Front → Type 0
-Says bytes (Took token rest) = Spelled bytes token rest
+abbrev pub Says : List ℕ → Beginning → Type 0
+Says bytes (Begins head rest) = Spelled bytes head rest
 Says bytes (Flawed flaw) = Unit {0}
 
-says_if : (bytes : List ℕ) (test : Bool) (f g : Front) → (test ≡ true → Says bytes f) → (test ≡ false → Says bytes g) → Says bytes (cond test f g)
+says_if : (bytes : List ℕ) (test : Bool) (f g : Beginning) → (test ≡ true → Says bytes f) → (test ≡ false → Says bytes g) → Says bytes (cond test f g)
 says_if bytes true f g hf hg = hf refl
 says_if bytes false f g hf hg = hg refl
 
 says_leaf : (atom rest bytes : List ℕ) → length atom < 2 ^ 27 → bytes ≡ prefix (length atom) ++ (atom ++ rest) → Says bytes (leaf atom rest)
 says_leaf [] rest bytes h e = (h, e)
 says_leaf (b ∷ []) rest bytes h e =
-    says_if bytes (nat_lt b 0x80) (Flawed LongSpelling) (Took (Leaf (b ∷ [])) rest) (λ t. tt)
+    says_if bytes (nat_lt b 0x80) (Flawed LongSpelling) (Begins (Leaf (b ∷ [])) rest) (λ t. tt)
     (λ t. (h, e ∙ sym (ap (λ c. cond c (b ∷ []) (0x81 ∷ b ∷ []) ++ rest) t)))
 says_leaf (b ∷ c ∷ atom) rest bytes h e = (h, e ∙ sym (append_assoc (prefix (length (b ∷ c ∷ atom))) (b ∷ c ∷ atom) rest))
 
@@ -125,14 +125,14 @@ says_four high (b ∷ c ∷ d ∷ rest) h all =
     ∙ ap (λ n. (0xf0 + size / 2 ^ 24) ∷ (size / 2 ^ 16 % 256) ∷ (size / 256 % 256) ∷ n ∷ rest) fourth ∙ ap (λ p. p ++ rest) (sym (prefix_four size low)))
 
 -- a first byte as the low end of its range and the rest of it
-says_high : (low b : ℕ) (rest : List ℕ) (f : Front) → low ≤ b → Says ((low + (b - low)) ∷ rest) f → Says (b ∷ rest) f
+says_high : (low b : ℕ) (rest : List ℕ) (f : Beginning) → low ≤ b → Says ((low + (b - low)) ∷ rest) f → Says (b ∷ rest) f
 says_high low b rest f h s = let e : low + (b - low) ≡ b = omega arith in subst (λ n. Says (n ∷ rest) f) e s
 
-says_byte : (b : ℕ) (rest : List ℕ) → AllBelowBase 256 rest → Says (b ∷ rest) (token_at (b ∷ rest))
-unfolding token_at
+says_byte : (b : ℕ) (rest : List ℕ) → AllBelowBase 256 rest → Says (b ∷ rest) (head_at (b ∷ rest))
+unfolding head_at
 says_byte b rest all =
     let bytes = b ∷ rest in
-    says_if bytes (nat_lt b 0x80) (Took (Leaf (b ∷ [])) rest) (from_80 b rest)
+    says_if bytes (nat_lt b 0x80) (Begins (Leaf (b ∷ [])) rest) (from_80 b rest)
     (λ t. (omega arith, sym (ap (λ c. cond c (b ∷ []) (0x81 ∷ b ∷ []) ++ rest) t)))
     (λ t. says_if bytes (nat_lt b 0xc0) (atom_behind (b - 0x80) rest) (from_c0 b rest)
     (λ t'.
@@ -155,15 +155,15 @@ says_byte b rest all =
     let low : 0xf0 ≤ b = grind (arith, nat_tests) in
     let high : b < 0xf8 = grind (arith, nat_tests) in
     says_high 0xf0 b rest (behind_four (b - 0xf0) rest) low (says_four (b - 0xf0) rest (omega arith) all))
-    (λ v. says_if bytes (b == 0xff) (Took Open rest) (Flawed BadPrefix)
+    (λ v. says_if bytes (b == 0xff) (Begins PairMark rest) (Flawed BadPrefix)
     (λ w. let e : b ≡ 0xff = grind (arith, nat_tests) in ap (λ n. n ∷ rest) e)
     (λ w. tt))))))
 
-no_byte : Says [] (token_at [])
-unfolding token_at
+no_byte : Says [] (head_at [])
+unfolding head_at
 no_byte = tt
 
--- What a token was read from is its spelling and the rest.
-pub says_front : (bytes : List ℕ) → AllBelowBase 256 bytes → Says bytes (token_at bytes)
+-- What a head was read from is its spelling and the rest.
+pub says_front : (bytes : List ℕ) → AllBelowBase 256 bytes → Says bytes (head_at bytes)
 says_front [] all = no_byte
 says_front (b ∷ rest) all = says_byte b rest all.1

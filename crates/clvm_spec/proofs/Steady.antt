@@ -7,7 +7,7 @@ use Rattle.clvm_spec.specs.declared.fuel.Which.TheVariants.{Cost, Pairs, Bytes, 
 use Rattle.clvm_spec.specs.Tree.{Tree, Atom, Pair, nil}
 use Rattle.clvm_spec.specs.ProperList.{elements}
 use Rattle.clvm_spec.specs.Path.{PathValue, Reached, Astray, path_value, path_cost}
-use Rattle.clvm_spec.specs.Outcomes.{Why, NoOperator, WrongCount, NotAList, NoStep, Applied, Gives, Fails, TooWide, Lacks, Outcome, Done, Failed, Spent, Wide}
+use Rattle.clvm_spec.specs.Outcomes.{Why, NoOperator, WrongCount, NotAList, NoStep, Applied, Gives, Fails, TooWide, WithinFuel, Outcome, Done, Failed, Spent, Wide}
 use Rattle.clvm_spec.specs.OperatorTable.{applied, within}
 use Rattle.clvm_spec.specs.Evaluation.{if_done, charge, is_byte, at_path, Evaluator, goes_on, in_form, apply_values, values_of, deeper, operator_form, evaluated_by, evaluated_within}
 use Rattle.clvm_spec.specs.FuelLaws.{Spending, Suffices, fuel_less, IsAtLeast}
@@ -156,7 +156,7 @@ enough form value cost pairs bytes fuel s =
 steady_value : (form value : Tree) (cost pairs bytes : ℕ) → IsSteady (in_form-value form value cost pairs bytes)
 unfolding in_form-value
 steady_value form value cost pairs bytes fuel =
-    let P = λ (a : Applied). Kept (in_form-value form value cost pairs bytes) fuel (in_form form fuel a) in
+    let P = λ (a : WithinFuel). Kept (in_form-value form value cost pairs bytes) fuel (in_form form fuel a) in
     cond_both (ltb fuel.cost cost) _ _ P (λ c. spent Cost)
     (λ c. cond_both (ltb fuel.pairs pairs) _ _ P (λ p. spent Pairs)
     (λ p. cond_both (ltb fuel.bytes bytes) _ _ P (λ b. spent Bytes)
@@ -169,7 +169,6 @@ unfolding in_form-value
 steady_operator form (Gives value cost pairs bytes) = steady_value form value cost pairs bytes
 steady_operator form (Fails why) = steady_failed why form
 steady_operator form TooWide = λ fuel. wide (λ more m. refl)
-steady_operator form (Lacks which) = λ fuel. spent which
 
 -- ---- evaluation
 

@@ -2,10 +2,11 @@
 use Rattle.std.specs.Prelude.{◌≡◌, ℕ, zero, suc, true, false, List, [], ◌∷◌, codes, refl}
 use Prim.Native.String.{String}
 use Rattle.std.specs.Fmt.{digits}
+use Rattle.hex.specs.Hex.{encode_with}
 use Rattle.clvm_spec.specs.declared.scan_kind.ScanKind.{ScanKind}
 use Rattle.clvm_spec.specs.declared.scan_kind.ScanKind.TheVariants.{End, Close, Dot, Hex, Number, Text, Byte, Deep}
 use Rattle.clvm_spec.specs.Tree.{Tree, Pair, nil}
-use Rattle.clvm_spec.specs.Reading.{token_at, tree_at_front}
+use Rattle.clvm_spec.specs.Reading.{head_at, tree_at_front}
 use Rattle.clvm_spec.specs.Numbers.{shortest_atom, without_sign_bytes}
 use Rattle.clvm_spec.specs.OperatorTable.{operator_of, operator_named}
 use Rattle.clvm_spec.specs.Tokens.{token_of, word_token}
@@ -55,7 +56,7 @@ printing :
     × prints "ff82ffff80" "(0xffff)"
     × prints "ff81ff80" "(-1)"
     × prints "ff0502" "(f . 2)"
-unfolding digits without_sign_bytes shortest_atom operator_of operator_named token_of word_token scanned token_at tree_at_front
+unfolding encode_with digits without_sign_bytes shortest_atom operator_of operator_named token_of word_token scanned head_at tree_at_front
 printing = (refl, refl, refl, refl, refl, refl, refl, refl, refl, refl, refl, refl, refl, refl, refl, refl, refl, refl, refl, refl, refl, refl, refl, refl, refl)
 
 -- What the texts of trees give, and other spellings of them.
@@ -87,7 +88,7 @@ scanning :
     × scans "170141183460469231731687303715884105727" "907fffffffffffffffffffffffffffffff"
     × scans "-170141183460469231731687303715884105728" "9080000000000000000000000000000000"
     × scans "(1'a'5)" "ff01ff61ff0580"
-unfolding digits without_sign_bytes shortest_atom operator_of operator_named token_of word_token scanned token_at tree_at_front
+unfolding encode_with digits without_sign_bytes shortest_atom operator_of operator_named token_of word_token scanned head_at tree_at_front
 scanning = (refl, refl, refl, refl, refl, refl, refl, refl, refl, refl, refl, refl, refl, refl, refl, refl, refl, refl, refl, refl, refl, refl, refl, refl, refl, refl, refl)
 
 -- The first fault from the front, at its place.
@@ -142,7 +143,7 @@ faults :
     × unreadable "1é" Byte 1
     × unnamed "a.b" 0
     × unnamed "q.1" 0
-unfolding digits without_sign_bytes shortest_atom operator_of operator_named token_of word_token scanned token_at tree_at_front
+unfolding encode_with digits without_sign_bytes shortest_atom operator_of operator_named token_of word_token scanned head_at tree_at_front
 faults = (refl, refl, refl, refl, refl, refl, refl, refl, refl, refl, refl, refl, refl, refl, refl, refl, refl, refl, refl, refl, refl, refl, refl, refl, refl, refl, refl, refl, refl, refl, refl, refl, refl, refl, refl, refl, refl, refl, refl, refl, refl, refl, refl, refl, refl, refl, refl, refl, refl, refl)
 
 more_texts :
@@ -155,7 +156,7 @@ more_texts :
     × unnamed "(foo . 0x5)" 1
     × unreadable "(1 . (foo" Dot 3
     × left_over "1 foo" 2
-unfolding digits without_sign_bytes shortest_atom operator_of operator_named token_of word_token scanned token_at tree_at_front
+unfolding encode_with digits without_sign_bytes shortest_atom operator_of operator_named token_of word_token scanned head_at tree_at_front
 more_texts = (refl, refl, refl, refl, refl, refl, refl, refl, refl)
 
 -- 1,024 lists in one another are read, and one more is too deep, also behind a dot.
@@ -180,7 +181,7 @@ depths :
     × (scanned (printed (nested 1024)) ≡ Unreadable Deep 1024)
     × (scanned (0x61 ∷ 0x7f ∷ []) ≡ Unreadable Byte 1)
     × (scanned (0x01 ∷ []) ≡ Unreadable Byte 0)
-unfolding digits without_sign_bytes shortest_atom operator_of operator_named token_of word_token scanned token_at tree_at_front opening closing nested
+unfolding encode_with digits without_sign_bytes shortest_atom operator_of operator_named token_of word_token scanned head_at tree_at_front opening closing nested
 depths = (refl, refl, refl, refl, refl, refl, refl, refl)
 
 -- No more parentheses are open at once than so many.
@@ -193,5 +194,5 @@ nestings :
     × (nests_within 1 (codes "(a (q . 2) 1)") ≡ false)
     × (nests_within 1024 (printed (nested 1023)) ≡ true)
     × (nests_within 1024 (printed (nested 1024)) ≡ false)
-unfolding nested operator_of shortest_atom without_sign_bytes digits
+unfolding nested operator_of shortest_atom without_sign_bytes digits encode_with
 nestings = (refl, refl, refl, refl, refl, refl, refl, refl)

@@ -6,7 +6,7 @@ use Rattle.clvm_spec.specs.declared.fuel.Which.TheVariants.{Cost, Depth}
 use Rattle.clvm_spec.specs.Tree.{Tree, Atom, Pair}
 use Rattle.clvm_spec.specs.ProperList.{elements}
 use Rattle.clvm_spec.specs.Path.{PathValue, Reached, Astray, path_value, path_cost}
-use Rattle.clvm_spec.specs.Outcomes.{NoStep, NotAList, WrongCount, NoOperator, Applied, Gives, Fails, TooWide, Lacks, Outcome, Done, Failed, Spent, Wide}
+use Rattle.clvm_spec.specs.Outcomes.{NoStep, NotAList, WrongCount, NoOperator, Gives, Fails, TooWide, WithinFuel, Enough, Lacks, Outcome, Done, Failed, Spent, Wide}
 use Rattle.clvm_spec.specs.OperatorTable.{operator_outcome}
 
 -- goes on from where a part is done
@@ -41,11 +41,11 @@ goes_on evaluate form depth (program ∷ []) left = Failed WrongCount form
 goes_on evaluate form depth (program ∷ env ∷ []) left = charge 90 left (evaluate program env depth)
 goes_on evaluate form depth (program ∷ env ∷ c ∷ more) left = Failed WrongCount form
 
--- Each other operator gives what it gives, within what is left.
-abbrev pub in_form : Tree → Fuel → Applied → Outcome
-in_form form left (Gives value cost pairs bytes) = Done value (record left { cost = left.cost - cost; pairs = left.pairs - pairs; bytes = left.bytes - bytes })
-in_form form left (Fails why) = Failed why form
-in_form form left TooWide = Wide
+-- A value takes its cost, pairs and bytes from what is left; a fault is the form's.
+abbrev pub in_form : Tree → Fuel → WithinFuel → Outcome
+in_form form left (Enough (Gives value cost pairs bytes)) = Done value (record left { cost = left.cost - cost; pairs = left.pairs - pairs; bytes = left.bytes - bytes })
+in_form form left (Enough (Fails why)) = Failed why form
+in_form form left (Enough TooWide) = Wide
 in_form form left (Lacks which) = Spent which
 
 abbrev pub apply_values : Evaluator → List ℕ → Tree → ℕ → List Tree → Fuel → Outcome

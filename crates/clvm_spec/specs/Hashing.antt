@@ -4,6 +4,13 @@ use Rattle.std.specs.Prelude.{ℕ, List, ◌∷◌, ◌++◌}
 use Rattle.sha2.specs.Sha256.{sha256}
 use Rattle.clvm_spec.specs.Tree.{Tree, Atom, Pair}
 
+abbrev pub atom_hash : List ℕ → List ℕ
+atom_hash bytes = sha256 (1 ∷ bytes)
+
+-- of the hashes of first and rest
+abbrev pub pair_hash : List ℕ → List ℕ → List ℕ
+pair_hash first rest = sha256 (2 ∷ first ++ rest)
+
 abbrev pub tree_hash : Tree → List ℕ
-tree_hash (Atom bytes) = sha256 (1 ∷ bytes)
-tree_hash (Pair first rest) = sha256 (2 ∷ tree_hash first ++ tree_hash rest)
+tree_hash (Atom bytes) = atom_hash bytes
+tree_hash (Pair first rest) = pair_hash (tree_hash first) (tree_hash rest)

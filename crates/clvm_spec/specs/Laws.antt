@@ -1,6 +1,6 @@
--- The laws of spelling, reading and numbers, each over all trees and bytes. They hold of the definitions, and so of
+-- The laws of spelling, reading, numbers and division, each over all trees, bytes and whole numbers. They hold of the definitions, and so of
 -- each program whose contract is one of these.
-use Rattle.std.specs.Prelude.{◌≡◌, ℕ, ◌<◌, ◌≤◌, ◌↔◌, false, ℤ, FitsSigned, List, [], ◌++◌, length, Some}
+use Rattle.std.specs.Prelude.{◌≡◌, ℕ, ◌<◌, ◌≤◌, ◌↔◌, false, ℤ, pos, ◌+ℤ◌, ◌*ℤ◌, ◌<ℤ◌, ◌≤ℤ◌, FitsSigned, List, [], ◌++◌, length, Some}
 use Rattle.std.specs.Int.{w128}
 use Rattle.std.specs.List.{AllByRecursion}
 use Rattle.clvm_spec.specs.Tree.{Tree}
@@ -8,6 +8,7 @@ use Rattle.clvm_spec.specs.Spelling.{spelling, HasSpelling, Spells}
 use Rattle.clvm_spec.specs.Reading.{Flaw, Found, Faulty, tree_at_front, tree_of}
 use Rattle.clvm_spec.specs.Faults.{HasFault}
 use Rattle.clvm_spec.specs.Numbers.{number, shortest_atom, has_sign_byte}
+use Rattle.clvm_spec.specs.Arithmetic.{quotient, remainder}
 
 abbrev pub AreBytes : List ℕ → Type 0
 AreBytes bytes = AllByRecursion (λ b. b < 256) bytes
@@ -47,3 +48,15 @@ ShortestIsItself = (atom : List ℕ) → AreBytes atom → length atom ≤ 16 �
 -- No atom of a number is shorter than the shortest.
 abbrev pub ShortestIsLeast : Type 0
 ShortestIsLeast = (atom : List ℕ) → AreBytes atom → length (shortest_atom (number atom)) ≤ length atom
+
+-- A number is the divisor times the quotient, and the remainder.
+abbrev pub RemainderIsLeft : Type 0
+RemainderIsLeft = (number divisor : ℤ) → number ≡ (divisor *ℤ quotient number divisor) +ℤ remainder number divisor
+
+-- The quotient is rounded down: by a divisor above 0 what is left is at least 0, and below the divisor;
+abbrev pub RoundsDownAboveZero : Type 0
+RoundsDownAboveZero = (number divisor : ℤ) → pos 0 <ℤ divisor → (pos 0 ≤ℤ remainder number divisor) × (remainder number divisor <ℤ divisor)
+
+-- by a divisor below 0 it is at most 0, and above the divisor.
+abbrev pub RoundsDownBelowZero : Type 0
+RoundsDownBelowZero = (number divisor : ℤ) → divisor <ℤ pos 0 → (divisor <ℤ remainder number divisor) × (remainder number divisor ≤ℤ pos 0)

@@ -3,7 +3,7 @@ use Rattle.std.specs.Prelude.{ℕ, ◌==◌, List, [], ◌∷◌, Option, Some, 
 use Rattle.clvm_spec.specs.declared.fuel.Fuel.{Fuel}
 use Rattle.clvm_spec.specs.declared.fuel.Which.TheVariants.{Cost, Pairs, Bytes}
 use Rattle.clvm_spec.specs.Tree.{Tree}
-use Rattle.clvm_spec.specs.Outcomes.{NoOperator, Applied, Gives, Fails, TooWide, Lacks}
+use Rattle.clvm_spec.specs.Outcomes.{NoOperator, Applied, Gives, Fails, TooWide, WithinFuel, Enough, Lacks}
 use Rattle.clvm_spec.specs.Operators.{choice, new_pair, first_of, rest_of, pair_flag, raised, equal_flag, bytes_greater_flag, hash_of, part_of, length_of, concat_of, sum_of, difference_of, product_of, quotient_of, quotient_and_remainder, greater_flag, shift_of_number, shift_of_bits, and_of, or_of, xor_of, complement_of, nil_flag, any_flag, all_flag}
 
 pub record Operator : Type 0 where
@@ -69,20 +69,19 @@ applied (code ∷ []) operands = applied_by (operator_of code) operands
 applied (code ∷ b ∷ more) operands = Fails NoOperator
 
 -- Where a value is there, the cost has to suffice, then the pairs, then the bytes. What is left is enough.
-abbrev pub within_bytes : Fuel → Tree → ℕ → ℕ → ℕ → Applied
-within_bytes left value cost pairs bytes = if nat_lt left.bytes bytes then Lacks Bytes else Gives value cost pairs bytes
+abbrev pub within_bytes : Fuel → Tree → ℕ → ℕ → ℕ → WithinFuel
+within_bytes left value cost pairs bytes = if nat_lt left.bytes bytes then Lacks Bytes else Enough (Gives value cost pairs bytes)
 
-abbrev pub within_pairs : Fuel → Tree → ℕ → ℕ → ℕ → Applied
+abbrev pub within_pairs : Fuel → Tree → ℕ → ℕ → ℕ → WithinFuel
 within_pairs left value cost pairs bytes = if nat_lt left.pairs pairs then Lacks Pairs else within_bytes left value cost pairs bytes
 
-abbrev pub within_cost : Fuel → Tree → ℕ → ℕ → ℕ → Applied
+abbrev pub within_cost : Fuel → Tree → ℕ → ℕ → ℕ → WithinFuel
 within_cost left value cost pairs bytes = if nat_lt left.cost cost then Lacks Cost else within_pairs left value cost pairs bytes
 
-abbrev pub within : Fuel → Applied → Applied
+abbrev pub within : Fuel → Applied → WithinFuel
 within left (Gives value cost pairs bytes) = within_cost left value cost pairs bytes
-within left (Fails why) = Fails why
-within left TooWide = TooWide
-within left (Lacks which) = Lacks which
+within left (Fails why) = Enough (Fails why)
+within left TooWide = Enough TooWide
 
-abbrev pub operator_outcome : List ℕ → List Tree → Fuel → Applied
+abbrev pub operator_outcome : List ℕ → List Tree → Fuel → WithinFuel
 operator_outcome code operands left = within left (applied code operands)

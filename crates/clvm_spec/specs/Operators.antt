@@ -1,7 +1,7 @@
 -- Each operator but `q` and `a`: what it gives of its operands, at which cost, with which new pairs and bytes, and its
 -- faults in their order. Operands are read from the first to the last. Source: CLVM reference; the costs and
 -- the order of faults as they stand here are this project's own.
-use Rattle.std.specs.Prelude.{ℕ, suc, ◌+◌, ◌*◌, ◌/◌, ℤ, pos, negsuc, ◌+ℤ◌, ◌-ℤ◌, ◌*ℤ◌, int_lt, Bool, true, false, not, ◌&&◌, List, [], ◌∷◌, length, map, fold, sum_by, slice_range, bytes_eq, nat_lt, nat_le, if◌then◌else◌}
+use Rattle.std.specs.Prelude.{ℕ, suc, ◌+◌, ◌*◌, ◌/◌, ℤ, pos, negsuc, ◌+ℤ◌, ◌-ℤ◌, ◌*ℤ◌, nat_abs, int_lt, int_le, Bool, true, false, not, ◌&&◌, List, [], ◌∷◌, length, get_or, drop, map, fold, sum_by, slice_range, bytes_eq, nat_lt, Option, Some, None, if◌then◌else◌}
 use Rattle.std.specs.List.{concat, list_any, list_all}
 use Rattle.std.specs.Ordering.{nat_cmp, is_gt}
 use Rattle.std.specs.Cmp.Lexicographic.{slice_cmp}
@@ -32,6 +32,13 @@ three (a ∷ b ∷ []) go = Fails WrongCount
 three (a ∷ b ∷ c ∷ []) go = go a b c
 three (a ∷ b ∷ c ∷ d ∷ more) go = Fails WrongCount
 
+abbrev pub two_or_three : List Tree → (Tree → Tree → Option Tree → Applied) → Applied
+two_or_three [] go = Fails WrongCount
+two_or_three (a ∷ []) go = Fails WrongCount
+two_or_three (a ∷ b ∷ []) go = go a b None
+two_or_three (a ∷ b ∷ c ∷ []) go = go a b (Some c)
+two_or_three (a ∷ b ∷ c ∷ d ∷ more) go = Fails WrongCount
+
 -- the operand of this place where a pair is needed
 abbrev pub pair_at : ℕ → Tree → (Tree → Tree → Applied) → Applied
 pair_at place (Atom bytes) go = Fails (WrongOperand place)
@@ -48,6 +55,11 @@ if_short bytes go = if nat_lt 16 (length bytes) then TooWide else go bytes
 
 abbrev pub number_at : ℕ → Tree → (List ℕ → Applied) → Applied
 number_at place operand go = atom_at place operand (λ bytes. if_short bytes go)
+
+-- the number of this place, or the other where no operand stands there
+abbrev pub number_or : ℤ → ℕ → Option Tree → (ℤ → Applied) → Applied
+number_or other place None go = go other
+number_or other place (Some operand) go = number_at place operand (λ bytes. go (number bytes))
 
 abbrev pub two_atoms : List Tree → (List ℕ → List ℕ → Applied) → Applied
 two_atoms operands go = two operands (λ a b. atom_at 0 a (λ a. atom_at 1 b (λ b. go a b)))
@@ -94,6 +106,13 @@ written cost bytes = new_atom (cost + 10 * length bytes) bytes
 
 abbrev pub new_number : ℕ → ℤ → Applied
 new_number cost n = if fits_128 n then written cost (shortest_atom n) else TooWide
+
+-- a pair of two new atoms, at a cost of 10 more for each byte of both
+abbrev pub written_pair : ℕ → List ℕ → List ℕ → Applied
+written_pair cost a b = Gives (Pair (Atom a) (Atom b)) (cost + 10 * (length a + length b)) 1 ((length a + 8) + (length b + 8))
+
+abbrev pub new_pair_of_numbers : ℕ → ℤ → ℤ → Applied
+new_pair_of_numbers cost a b = if fits_128 a && fits_128 b then written_pair cost (shortest_atom a) (shortest_atom b) else TooWide
 
 abbrev pub lengths : List (List ℕ) → ℕ
 lengths atoms = sum_by length atoms
@@ -142,22 +161,14 @@ bytes_greater_flag operands = two_atoms operands (λ a b. free (flag (is_gt (sli
 abbrev pub hash_of : List Tree → Applied
 hash_of operands = atoms operands (λ atoms. new_atom (87 + 134 * length atoms + 2 * lengths atoms + 320) (sha256 (concat atoms)))
 
--- the bytes from the start to the end, where 0 <= start <= end <= length
-abbrev pub part_within : List ℕ → ℕ → ℕ → Applied
-part_within bytes start end = if nat_le start end && nat_le end (length bytes) then new_atom 1 (slice_range bytes start end) else Fails (WrongOperand 1)
-
-abbrev pub part : List ℕ → ℤ → ℤ → Applied
-part bytes (pos start) (pos end) = part_within bytes start end
-part bytes (pos start) (negsuc end) = Fails (WrongOperand 1)
-part bytes (negsuc start) end = Fails (WrongOperand 1)
+-- 0 <= start <= end <= length
+abbrev pub is_part : ℤ → ℤ → ℕ → Bool
+is_part start end length = int_le (pos 0) start && int_le start end && int_le end (pos length)
 
 -- substr: the bytes from the start to the end; the end is the length by default
 abbrev pub part_of : List Tree → Applied
-part_of [] = Fails WrongCount
-part_of (a ∷ []) = Fails WrongCount
-part_of (a ∷ start ∷ []) = atom_at 0 a (λ a. number_at 1 start (λ start. part a (number start) (pos (length a))))
-part_of (a ∷ start ∷ end ∷ []) = atom_at 0 a (λ a. number_at 1 start (λ start. number_at 2 end (λ end. part a (number start) (number end))))
-part_of (a ∷ b ∷ c ∷ d ∷ more) = Fails WrongCount
+part_of operands = two_or_three operands (λ a start end. atom_at 0 a (λ a. number_at 1 start (λ start. number_or (pos (length a)) 2 end (λ end.
+    if is_part (number start) end (length a) then new_atom 1 (slice_range a (nat_abs (number start)) (nat_abs end)) else Fails (WrongOperand 1)))))
 
 -- strlen
 abbrev pub length_of : List Tree → Applied
@@ -174,39 +185,26 @@ abbrev pub from_left : (ℤ → ℤ → ℤ) → ℤ → List ℤ → (ℤ → A
 from_left step so_far [] go = go so_far
 from_left step so_far (n ∷ ns) go = if fits_128 (step so_far n) then from_left step (step so_far n) ns go else TooWide
 
-abbrev pub sum_cost : List (List ℕ) → ℕ
-sum_cost atoms = 99 + 320 * length atoms + 3 * lengths atoms
-
 -- +: the sum, 0 for none
 abbrev pub sum_of : List Tree → Applied
-sum_of operands = numbers operands (λ atoms. from_left ◌+ℤ◌ (pos 0) (map number atoms) (new_number (sum_cost atoms)))
-
--- the first less the others, 0 for none
-abbrev pub less_others : List ℤ → (ℤ → Applied) → Applied
-less_others [] go = go (pos 0)
-less_others (n ∷ ns) go = from_left ◌-ℤ◌ n ns go
+sum_of operands = numbers operands (λ atoms. from_left ◌+ℤ◌ (pos 0) (map number atoms) (new_number (99 + 320 * length atoms + 3 * lengths atoms)))
 
 -- -: the first less the others, 0 for none
 abbrev pub difference_of : List Tree → Applied
-difference_of operands = numbers operands (λ atoms. less_others (map number atoms) (new_number (sum_cost atoms)))
+difference_of operands = numbers operands (λ atoms. let first = get_or atoms 0 [] in
+    from_left ◌-ℤ◌ (number first) (map number (drop 1 atoms)) (new_number (99 + 320 * length atoms + 3 * lengths atoms)))
 
--- Each operand after the first costs by its length and that of the running product, which is the first operand's own,
--- and then that of its shortest form.
-abbrev pub factor_cost : ℕ → ℕ → ℕ
-factor_cost size other = 885 + 6 * (size + other) + size * other / 128
-
-abbrev pub times_others : (cost size : ℕ) → ℤ → List (List ℕ) → Applied
-times_others cost size so_far [] = new_number cost so_far
-times_others cost size so_far (a ∷ atoms) = let product = so_far *ℤ number a in
-    if fits_128 product then times_others (cost + factor_cost size (length a)) (length (shortest_atom product)) product atoms else TooWide
-
-abbrev pub product_from : List (List ℕ) → Applied
-product_from [] = new_number 92 (pos 1)
-product_from (a ∷ atoms) = times_others 92 (length a) (number a) atoms
+-- What the operands after the first cost: each 885, 6 per byte of the running product and the operand, and the product
+-- of the two lengths / 128. The running product's length is that of its shortest form; at first it's the first operand's.
+abbrev pub factors_cost : (size : ℕ) → ℤ → List (List ℕ) → ℕ
+factors_cost size product [] = 0
+factors_cost size product (a ∷ others) = 885 + 6 * (size + length a) + size * length a / 128
+    + factors_cost (length (shortest_atom (product *ℤ number a))) (product *ℤ number a) others
 
 -- *: the product, 1 for none
 abbrev pub product_of : List Tree → Applied
-product_of operands = numbers operands product_from
+product_of operands = numbers operands (λ atoms. let first = get_or atoms 0 (1 ∷ []) in let others = drop 1 atoms in
+    from_left ◌*ℤ◌ (number first) (map number others) (new_number (92 + factors_cost (length first) (number first) others)))
 
 abbrev pub unless_zero : ℤ → Applied → Applied
 unless_zero divisor applied = if is_zero divisor then Fails ZeroDivisor else applied
@@ -215,35 +213,24 @@ unless_zero divisor applied = if is_zero divisor then Fails ZeroDivisor else app
 abbrev pub quotient_of : List Tree → Applied
 quotient_of operands = two_numbers operands (λ a b. unless_zero (number b) (new_number (988 + 4 * (length a + length b)) (quotient (number a) (number b))))
 
--- a pair of two new numbers
-abbrev pub pair_of_atoms : ℕ → List ℕ → List ℕ → Applied
-pair_of_atoms cost a b = Gives (Pair (Atom a) (Atom b)) (cost + 10 * (length a + length b)) 1 ((length a + 8) + (length b + 8))
-
-abbrev pub pair_of_numbers : ℕ → ℤ → ℤ → Applied
-pair_of_numbers cost a b = if fits_128 a && fits_128 b then pair_of_atoms cost (shortest_atom a) (shortest_atom b) else TooWide
-
 -- divmod: the pair of the quotient rounded down and the remainder
 abbrev pub quotient_and_remainder : List Tree → Applied
-quotient_and_remainder operands = two_numbers operands (λ a b. unless_zero (number b) (pair_of_numbers (1116 + 6 * (length a + length b)) (quotient (number a) (number b)) (remainder (number a) (number b))))
+quotient_and_remainder operands = two_numbers operands (λ a b. unless_zero (number b) (new_pair_of_numbers (1116 + 6 * (length a + length b)) (quotient (number a) (number b)) (remainder (number a) (number b))))
 
 -- >: 1 where the first is larger, else nil
 abbrev pub greater_flag : List Tree → Applied
 greater_flag operands = two_numbers operands (λ a b. free (flag (int_lt (number b) (number a))) (498 + 2 * (length a + length b)))
 
--- a number times 2 ^ shift, rounded down. One that 128 bits don't hold is too wide, whatever its shortest atom is said to be.
-abbrev pub shifted_number : ℕ → ℕ → ℤ → Applied
-shifted_number cost size n = new_number (cost + 3 * (size + length (shortest_atom n))) n
-
-abbrev pub shift : ℕ → ℕ → ℤ → ℤ → Applied
-shift cost size n by = if is_shift by then shifted_number cost size (shifted n by) else Fails WrongShift
-
--- ash: the value times 2 ^ shift, rounded down
+-- ash: the value times 2 ^ shift, rounded down. One that 128 bits don't hold is too wide, whatever its shortest atom is
+-- said to be.
 abbrev pub shift_of_number : List Tree → Applied
-shift_of_number operands = two_numbers operands (λ a by. shift 596 (length a) (number a) (number by))
+shift_of_number operands = two_numbers operands (λ a by. let n = shifted (number a) (number by) in
+    if is_shift (number by) then new_number (596 + 3 * (length a + length (shortest_atom n))) n else Fails WrongShift)
 
 -- lsh: the same of the value read without sign
 abbrev pub shift_of_bits : List Tree → Applied
-shift_of_bits operands = two_numbers operands (λ a by. shift 277 (length a) (pos (unsigned a)) (number by))
+shift_of_bits operands = two_numbers operands (λ a by. let n = shifted (pos (unsigned a)) (number by) in
+    if is_shift (number by) then new_number (277 + 3 * (length a + length (shortest_atom n))) n else Fails WrongShift)
 
 -- logand, logior, logxor: bit by bit, -1, 0 and 0 for none
 abbrev pub bits_of : (ℤ → ℤ → ℤ) → ℤ → List Tree → Applied

@@ -30,8 +30,12 @@ pub data Applied : Type 0 where
   Fails : Why → Applied
   -- a number that 128 bits don't hold
   TooWide : Applied
+
+-- the same within what is left of the fuel
+pub data WithinFuel : Type 0 where
+  Enough : Applied → WithinFuel
   -- That count doesn't suffice.
-  Lacks : Which → Applied
+  Lacks : Which → WithinFuel
 
 -- how the evaluation of a program ends
 pub data Outcome : Type 0 where

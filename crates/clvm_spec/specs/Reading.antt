@@ -11,65 +11,65 @@ pub data Flaw : Type 0 where
   -- 0xf8 to 0xfe begin no tree.
   BadPrefix : Flaw
 
--- 0xff, or the spelling of one atom
-pub data Token : Type 0 where
-  Open : Token
-  Leaf : List ℕ → Token
+-- how a tree begins: with 0xff, the mark of a pair, or with the spelling of one atom
+pub data Head : Type 0 where
+  PairMark : Head
+  Leaf : List ℕ → Head
 
--- a token and the bytes after it, or why no token stands at the front
-pub data Front : Type 0 where
-  Took : Token → List ℕ → Front
-  Flawed : Flaw → Front
+-- a head and the bytes after it, or why no head stands at the front
+pub data Beginning : Type 0 where
+  Begins : Head → List ℕ → Beginning
+  Flawed : Flaw → Beginning
 
 -- One byte below 0x80 needs no prefix.
-abbrev pub leaf : List ℕ → List ℕ → Front
-leaf [] rest = Took (Leaf []) rest
-leaf (b ∷ []) rest = if nat_lt b 0x80 then Flawed LongSpelling else Took (Leaf (b ∷ [])) rest
-leaf (b ∷ c ∷ atom) rest = Took (Leaf (b ∷ c ∷ atom)) rest
+abbrev pub leaf : List ℕ → List ℕ → Beginning
+leaf [] rest = Begins (Leaf []) rest
+leaf (b ∷ []) rest = if nat_lt b 0x80 then Flawed LongSpelling else Begins (Leaf (b ∷ [])) rest
+leaf (b ∷ c ∷ atom) rest = Begins (Leaf (b ∷ c ∷ atom)) rest
 
 -- an atom of this many bytes, behind its prefix
-abbrev pub atom_behind : ℕ → List ℕ → Front
+abbrev pub atom_behind : ℕ → List ℕ → Beginning
 atom_behind size bytes = if nat_lt (length bytes) size then Flawed Cut else leaf (take size bytes) (drop size bytes)
 
 -- the same, where a shorter prefix serves for lengths below the least one
-abbrev pub long_atom : ℕ → ℕ → List ℕ → Front
+abbrev pub long_atom : ℕ → ℕ → List ℕ → Beginning
 long_atom least size bytes = if nat_lt size least then Flawed LongSpelling else atom_behind size bytes
 
 -- behind a first byte 0xc0 to 0xdf, 0xe0 to 0xef, 0xf0 to 0xf7, with the high bits of the length
-abbrev pub behind_two : ℕ → List ℕ → Front
+abbrev pub behind_two : ℕ → List ℕ → Beginning
 behind_two high [] = Flawed Cut
 behind_two high (b ∷ rest) = long_atom 0x40 (high * 256 + b) rest
 
-abbrev pub behind_three : ℕ → List ℕ → Front
+abbrev pub behind_three : ℕ → List ℕ → Beginning
 behind_three high [] = Flawed Cut
 behind_three high (b ∷ []) = Flawed Cut
 behind_three high (b ∷ c ∷ rest) = long_atom 0x2000 ((high * 256 + b) * 256 + c) rest
 
-abbrev pub behind_four : ℕ → List ℕ → Front
+abbrev pub behind_four : ℕ → List ℕ → Beginning
 behind_four high [] = Flawed Cut
 behind_four high (b ∷ []) = Flawed Cut
 behind_four high (b ∷ c ∷ []) = Flawed Cut
 behind_four high (b ∷ c ∷ d ∷ rest) = long_atom 0x10_0000 (((high * 256 + b) * 256 + c) * 256 + d) rest
 
 -- what a first byte from 0x80 on begins
-abbrev pub from_f8 : ℕ → List ℕ → Front
-from_f8 b rest = if b == 0xff then Took Open rest else Flawed BadPrefix
+abbrev pub from_f8 : ℕ → List ℕ → Beginning
+from_f8 b rest = if b == 0xff then Begins PairMark rest else Flawed BadPrefix
 
-abbrev pub from_f0 : ℕ → List ℕ → Front
+abbrev pub from_f0 : ℕ → List ℕ → Beginning
 from_f0 b rest = if nat_lt b 0xf8 then behind_four (b - 0xf0) rest else from_f8 b rest
 
-abbrev pub from_e0 : ℕ → List ℕ → Front
+abbrev pub from_e0 : ℕ → List ℕ → Beginning
 from_e0 b rest = if nat_lt b 0xf0 then behind_three (b - 0xe0) rest else from_f0 b rest
 
-abbrev pub from_c0 : ℕ → List ℕ → Front
+abbrev pub from_c0 : ℕ → List ℕ → Beginning
 from_c0 b rest = if nat_lt b 0xe0 then behind_two (b - 0xc0) rest else from_e0 b rest
 
-abbrev pub from_80 : ℕ → List ℕ → Front
+abbrev pub from_80 : ℕ → List ℕ → Beginning
 from_80 b rest = if nat_lt b 0xc0 then atom_behind (b - 0x80) rest else from_c0 b rest
 
-unfoldable pub token_at : List ℕ → Front
-token_at [] = Flawed Cut
-token_at (b ∷ rest) = if nat_lt b 0x80 then Took (Leaf (b ∷ [])) rest else from_80 b rest
+unfoldable pub head_at : List ℕ → Beginning
+head_at [] = Flawed Cut
+head_at (b ∷ rest) = if nat_lt b 0x80 then Begins (Leaf (b ∷ [])) rest else from_80 b rest
 
 -- the tree at the front and the bytes after it, or the flaw and the bytes from its place on
 pub data Read : Type 0 where
@@ -88,15 +88,15 @@ with_first first rest = and_then rest (λ second last. Found (Pair first second)
 abbrev pub with_both : (List ℕ → Read) → Read → Read
 with_both read first = and_then first (λ tree more. with_first tree (read more))
 
-abbrev pub from_token : (List ℕ → Read) → List ℕ → Front → Read
-from_token read bytes (Flawed flaw) = Faulty flaw bytes
-from_token read bytes (Took (Leaf atom) rest) = Found (Atom atom) rest
-from_token read bytes (Took Open rest) = with_both read (read rest)
+abbrev pub from_head : (List ℕ → Read) → List ℕ → Beginning → Read
+from_head read bytes (Flawed flaw) = Faulty flaw bytes
+from_head read bytes (Begins (Leaf atom) rest) = Found (Atom atom) rest
+from_head read bytes (Begins PairMark rest) = with_both read (read rest)
 
 -- A pair takes a byte, so no tree nests deeper than there are bytes, and the first number only bounds the recursion.
 abbrev pub tree_within : ℕ → List ℕ → Read
 tree_within zero bytes = Faulty Cut bytes
-tree_within (suc depth) bytes = from_token (tree_within depth) bytes (token_at bytes)
+tree_within (suc depth) bytes = from_head (tree_within depth) bytes (head_at bytes)
 
 unfoldable pub tree_at_front : List ℕ → Read
 tree_at_front bytes = tree_within (suc (length bytes)) bytes

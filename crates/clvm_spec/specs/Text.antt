@@ -1,7 +1,8 @@
 -- The text form of CLVM: printing, and scanning with the first fault and its place. Source: Chialisp reference;
 -- which atoms are written in decimal, the faults and their order are this project's own.
-use Rattle.std.specs.Prelude.{ℕ, zero, suc, ◌/◌, ◌%◌, Bool, true, false, ◌&&◌, List, [], ◌∷◌, ◌++◌, length, flat_map, bytes_eq, codes, nat_lt, nat_le, if◌then◌else◌, Option, Some, None}
-use Rattle.std.specs.Fmt.{signed_decimal, digit_glyph}
+use Rattle.std.specs.Prelude.{ℕ, zero, suc, Bool, true, false, ◌&&◌, List, [], ◌∷◌, ◌++◌, length, bytes_eq, codes, nat_lt, nat_le, if◌then◌else◌, Option, Some, None}
+use Rattle.std.specs.Fmt.{signed_decimal}
+use Rattle.hex.specs.Hex.{encode_lower}
 use Rattle.clvm_spec.specs.declared.scan_kind.ScanKind.{ScanKind}
 use Rattle.clvm_spec.specs.declared.scan_kind.ScanKind.TheVariants.{End, Close, Dot, Deep}
 use Rattle.clvm_spec.specs.Tree.{Tree, Atom, Pair, nil}
@@ -11,15 +12,12 @@ use Rattle.clvm_spec.specs.Tokens.{Token, Opening, Closing, Point, Literal, Symb
 
 -- ---- printing
 
-abbrev pub hex_digits : ℕ → List ℕ
-hex_digits b = digit_glyph false (b / 16) ∷ digit_glyph false (b % 16) ∷ []
-
 abbrev pub is_short_number : List ℕ → Bool
 is_short_number bytes = nat_le (length bytes) 2 && bytes_eq (shortest_atom (number bytes)) bytes
 
 -- An atom of 1 or 2 bytes that is the shortest of its number is written in decimal, every other in hexadecimal.
 abbrev pub bytes_text : List ℕ → List ℕ
-bytes_text bytes = if is_short_number bytes then signed_decimal (number bytes) else codes "0x" ++ flat_map hex_digits bytes
+bytes_text bytes = if is_short_number bytes then signed_decimal (number bytes) else codes "0x" ++ encode_lower bytes
 
 abbrev pub atom_text : List ℕ → List ℕ
 atom_text [] = codes "()"

@@ -1,9 +1,12 @@
 -- The tokens of a text, of CLVM's and of Chialisp's. Source: Chialisp reference; that an odd number of digits behind
 -- `0x` or none is refused, the width of numbers, and the faults, are this project's own.
-use Rattle.std.specs.Prelude.{ℕ, suc, ◌+◌, ◌-◌, ◌*◌, ◌==◌, ℤ, pos, neg_ℤ, Bool, true, false, not, ◌&&◌, ◌||◌, List, [], ◌∷◌, length, take, drop, bytes_eq, codes, nat_lt, nat_le, if◌then◌else◌, Option, Some, None, option_map, Result, Ok, Err}
+use Rattle.std.specs.Prelude.{ℕ, suc, ◌-◌, ◌==◌, ℤ, Bool, true, false, not, ◌&&◌, ◌||◌, List, [], ◌∷◌, length, take, drop, bytes_eq, codes, nat_lt, nat_le, if◌then◌else◌, Result, Ok, Err}
 use Rattle.std.specs.List.{prefix_len}
-use Rattle.std.specs.Char.{is_ascii_digit, is_ascii_hexdigit}
+use Rattle.std.specs.Char.{is_ascii_digit}
 use Rattle.std.specs.Str.{all_ascii_digits}
+use Rattle.std.specs.Str.Parse.{signed_digits_value}
+use Rattle.hex.specs.Hex.{decode_of, decode_pairs}
+use Rattle.hex.specs.declared.error.FromHexError.{FromHexError}
 use Rattle.clvm_spec.specs.declared.scan_kind.ScanKind.{ScanKind}
 use Rattle.clvm_spec.specs.declared.scan_kind.ScanKind.TheVariants.{Hex, Number, Text, Byte}
 use Rattle.clvm_spec.specs.Numbers.{shortest_atom}
@@ -52,14 +55,6 @@ without_blanks false (b ∷ bytes) = if is_separator b || b == 0x3b then without
 
 -- ---- numbers
 
-abbrev pub decimal_behind : ℕ → List ℕ → ℕ
-decimal_behind high [] = high
-decimal_behind high (b ∷ digits) = decimal_behind (10 * high + (b - 48)) digits
-
-abbrev pub begins_with_minus : List ℕ → Bool
-begins_with_minus [] = false
-begins_with_minus (b ∷ bytes) = b == 0x2d
-
 abbrev pub without_minus : List ℕ → List ℕ
 without_minus [] = []
 without_minus (b ∷ bytes) = if b == 0x2d then bytes else b ∷ bytes
@@ -68,31 +63,19 @@ abbrev pub is_number : List ℕ → Bool
 is_number [] = false
 is_number (b ∷ digits) = all_ascii_digits (b ∷ digits)
 
-abbrev pub number_of_word : List ℕ → ℤ
-number_of_word word = let n = pos (decimal_behind 0 (without_minus word)) in if begins_with_minus word then neg_ℤ n else n
-
 abbrev pub number_token : ℤ → Result Token ScanKind
 number_token n = if fits_128 n then Ok (Literal (shortest_atom n)) else Err Number
 
 -- ---- hexadecimal digits, in either case
 
-abbrev pub hex_value : ℕ → ℕ
-hex_value b = if nat_le 0x61 b then b - 87 else (if nat_le 0x41 b then b - 55 else b - 48)
-
-abbrev pub hex_bytes : List ℕ → Option (List ℕ)
-hex_bytes [] = Some []
-hex_bytes (high ∷ []) = None
-hex_bytes (high ∷ low ∷ digits) = if is_ascii_hexdigit high && is_ascii_hexdigit low
-    then option_map (λ bytes. (16 * hex_value high + hex_value low) ∷ bytes) (hex_bytes digits) else None
-
-abbrev pub hex_literal : Option (List ℕ) → Result Token ScanKind
-hex_literal None = Err Hex
-hex_literal (Some bytes) = Ok (Literal bytes)
+abbrev pub hex_literal : Result (List ℕ) FromHexError → Result Token ScanKind
+hex_literal (Ok bytes) = Ok (Literal bytes)
+hex_literal (Err why) = Err Hex
 
 -- at least two digits
 abbrev pub hex_token : List ℕ → Result Token ScanKind
 hex_token [] = Err Hex
-hex_token (b ∷ digits) = hex_literal (hex_bytes (b ∷ digits))
+hex_token (b ∷ digits) = hex_literal (decode_of (b ∷ digits))
 
 -- ---- words
 
@@ -111,7 +94,8 @@ from_hex word = if bytes_eq (take 2 word) (codes "0x") then hex_token (drop 2 wo
 
 -- what a word is: a number, bytes behind `0x`, a dot or a symbol
 unfoldable pub word_token : List ℕ → Result Token ScanKind
-word_token word = if is_number (without_minus word) then number_token (number_of_word word) else from_hex word
+unfolding decode_pairs
+word_token word = if is_number (without_minus word) then number_token (signed_digits_value 10 word) else from_hex word
 
 -- ---- the token at the front
 

@@ -3,6 +3,7 @@
 #![tactic(auto)]
 
 pub mod arithmetic;
+pub mod arithmetic_laws;
 pub mod codec_laws;
 pub mod fuel;
 pub mod fuel_laws;

@@ -1,15 +1,13 @@
 -- One more byte of a number of at most 16 bytes.
-use Rattle.std.proofs.Common.{◌≡◌, ℕ, zero, suc, ◌+◌, ◌*◌, ◌-◌, ◌^◌, ◌<◌, ◌≤◌, List, [], ◌∷◌, Some, length, map, take, get_or, pos, negsuc, ◌-ℤ◌, to_z, of_z, refl, sym, ◌∙◌, ap, arith}
+use Rattle.std.proofs.Common.{◌≡◌, ℕ, zero, suc, ◌+◌, ◌*◌, ◌-◌, ◌^◌, ◌<◌, ◌≤◌, List, [], ◌∷◌, length, map, take, get_or, negsuc, ◌-ℤ◌, to_z, of_z, refl, sym, ◌∙◌, ap, arith}
 use Rattle.std.specs.Int.Digits.{AllBelowBase}
 use Rattle.std.proofs.lemmas.List.{length-take-le, length-map}
 use Rattle.std.proofs.lemmas.Int.Digits.{number_lt, number_more}
 use Rattle.std.proofs.Math.Nat.{pow-le-pow_right}
 use Rattle.std.specs.Int.{w128}
 use Rattle.std.proofs.lemmas.Int.{ints}
-use Rattle.std.proofs.lemmas.Bool.Decides.{nat_tests}
 use Rattle.clvm_spec.specs.Numbers.{unsigned}
 use Rattle.clvm_spec.proofs.NumberLaws.{unsigned_below, all_turned}
-use Rattle.clvm_tree.specs.Numbers.{short_number}
 
 all_taken : (k : ℕ) (bytes : List ℕ) → AllBelowBase 256 bytes → AllBelowBase 256 (take k bytes)
 all_taken zero bytes h = tt
@@ -52,14 +50,6 @@ negative_fits [] short some high = absurd (omega arith)
 negative_fits (b ∷ bytes) short some high =
     let turned = map (λ b. 255 - b) bytes in
     half_fits turned (unsigned (map (λ b. 255 - b) (b ∷ bytes))) (omega (arith, length-map bytes (λ (b : ℕ). 255 - b))) (unsigned_below (255 - b) 128 turned (all_turned bytes) (omega arith))
-
-pub positive : (bytes : List ℕ) → length bytes ≤ 16 → get_or bytes 0 0 < 128 → short_number bytes ≡ Some (pos (unsigned bytes))
-positive [] short low = refl
-positive (b ∷ bytes) short low = grind (arith, nat_tests)
-
-pub negative : (bytes : List ℕ) → length bytes ≤ 16 → 1 ≤ length bytes → 128 ≤ get_or bytes 0 0 → short_number bytes ≡ Some (negsuc (unsigned (map (λ b. 255 - b) bytes)))
-negative [] short some high = absurd (omega arith)
-negative (b ∷ bytes) short some high = grind (arith, nat_tests)
 
 -- -1 less a number of 127 bits
 pub minus_one_less : (n : ℕ) → n < 2 ^ 127 → to_z w128 (of_z w128 (negsuc 0 -ℤ to_z w128 n)) ≡ negsuc n

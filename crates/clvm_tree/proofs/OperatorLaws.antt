@@ -4,7 +4,7 @@ use Rattle.std.proofs.lemmas.Bool.{ltb-false}
 use Rattle.clvm_spec.specs.declared.fuel.Fuel.{Fuel}
 use Rattle.clvm_spec.specs.declared.fuel.Which.{Which}
 use Rattle.clvm_spec.specs.Tree.{Tree, Atom, Pair}
-use Rattle.clvm_spec.specs.Outcomes.{Applied, Gives, Fails, TooWide, Lacks}
+use Rattle.clvm_spec.specs.Outcomes.{Applied, Gives, Fails, TooWide, WithinFuel, Enough, Lacks}
 use Rattle.clvm_spec.specs.OperatorTable.{applied, within, within_pairs, within_bytes}
 use Rattle.clvm_spec.proofs.OperatorCosts.{operators_law}
 use Rattle.clvm_tree.specs.Nodes.{tree_at}
@@ -12,7 +12,7 @@ use Rattle.clvm_tree.specs.Operators.{outcome_by, IsWithin, AnswersAreWithin}
 use Rattle.clvm_tree.specs.declared.operators.Answer.{Answer}
 
 -- what is given where a count suffices, which otherwise lacks
-if_enough : (b : Bool) (which : Which) (x : Applied) {value : Tree} {cost pairs bytes : ℕ} → cond b (Lacks which) x ≡ Gives value cost pairs bytes → (b ≡ false) × (x ≡ Gives value cost pairs bytes)
+if_enough : (b : Bool) (which : Which) (x : WithinFuel) {value : Tree} {cost pairs bytes : ℕ} → cond b (Lacks which) x ≡ Enough (Gives value cost pairs bytes) → (b ≡ false) × (x ≡ Enough (Gives value cost pairs bytes))
 if_enough true which x e = absurd cc
 if_enough false which x e = (refl, e)
 
@@ -23,12 +23,13 @@ pub record IsCovered (left : Fuel) (a : Applied) (value : Tree) (cost pairs byte
   pub pairs_are : pairs ≤ left.pairs
   pub bytes_are : bytes ≤ left.bytes
 
-pub gives_within : (left : Fuel) (a : Applied) (value : Tree) (cost pairs bytes : ℕ) → within left a ≡ Gives value cost pairs bytes → IsCovered left a value cost pairs bytes
+pub gives_within : (left : Fuel) (a : Applied) (value : Tree) (cost pairs bytes : ℕ) → within left a ≡ Enough (Gives value cost pairs bytes) → IsCovered left a value cost pairs bytes
 gives_within left (Gives v c p y) value cost pairs bytes e =
     let paid = if_enough (ltb left.cost c) _ (within_pairs left v c p y) e in
     let paired = if_enough (ltb left.pairs p) _ (within_bytes left v c p y) paid.1 in
-    let made = if_enough (ltb left.bytes y) _ (Gives v c p y) paired.1 in
-    let same : Gives v c p y ≡ Gives value cost pairs bytes = made.1 in
+    let made = if_enough (ltb left.bytes y) _ (Enough (Gives v c p y)) paired.1 in
+    let whole = made.1 in
+    let same : Gives v c p y ≡ Gives value cost pairs bytes = cc in
     let same_cost : c ≡ cost = cc in
     let same_pairs : p ≡ pairs = cc in
     let same_bytes : y ≡ bytes = cc in
@@ -40,9 +41,8 @@ gives_within left (Gives v c p y) value cost pairs bytes e =
     }
 gives_within left (Fails why) value cost pairs bytes e = absurd cc
 gives_within left TooWide value cost pairs bytes e = absurd cc
-gives_within left (Lacks which) value cost pairs bytes e = absurd cc
 
-pub answer_within : (code : Tree) (operands : List Tree) (left : Fuel) (answer : Answer) (value : Tree) → outcome_by code operands left ≡ Gives value answer.cost answer.pairs answer.bytes → IsWithin left answer
+pub answer_within : (code : Tree) (operands : List Tree) (left : Fuel) (answer : Answer) (value : Tree) → outcome_by code operands left ≡ Enough (Gives value answer.cost answer.pairs answer.bytes) → IsWithin left answer
 answer_within (Atom code) operands left answer value e =
     let covered = gives_within left (applied code operands) value answer.cost answer.pairs answer.bytes e in
     record {

@@ -2,7 +2,7 @@
 use Rattle.std.specs.Prelude.{◌≡◌, ℕ, ◌≤◌, List, map}
 use Rattle.clvm_spec.specs.declared.fuel.Fuel.{Fuel}
 use Rattle.clvm_spec.specs.Tree.{Tree, Atom, Pair}
-use Rattle.clvm_spec.specs.Outcomes.{WrongCount, WrongOperand, ZeroDivisor, WrongShift, NoOperator, Applied, Gives, Fails, TooWide, Lacks}
+use Rattle.clvm_spec.specs.Outcomes.{WrongCount, WrongOperand, ZeroDivisor, WrongShift, NoOperator, Gives, Fails, TooWide, WithinFuel, Enough, Lacks}
 use Rattle.clvm_spec.specs.Outcomes as outcomes
 use Rattle.clvm_spec.specs.OperatorTable.{operator_outcome}
 use Rattle.clvm_tree.specs.Nodes.{tree_at, IsKnown}
@@ -15,14 +15,14 @@ abbrev pub trees_at : List Tree → List Node → List Tree
 trees_at trees nodes = map (λ node. tree_at trees node.0) nodes
 
 -- The operator whose code is this tree, within what is left. A pair is no operator's code.
-abbrev pub outcome_by : Tree → List Tree → Fuel → Applied
+abbrev pub outcome_by : Tree → List Tree → Fuel → WithinFuel
 outcome_by (Atom code) operands left = operator_outcome code operands left
-outcome_by (Pair first rest) operands left = Fails NoOperator
+outcome_by (Pair first rest) operands left = Enough (Fails NoOperator)
 
 -- The answer is what the operator gives.
-pub record IsAnswer (trees : List Tree) (applied : Applied) (answer : Answer) : Type 0 where
+pub record IsAnswer (trees : List Tree) (outcome : WithinFuel) (answer : Answer) : Type 0 where
   pub known : IsKnown trees answer.value.0
-  pub gives : applied ≡ Gives (tree_at trees answer.value.0) answer.cost answer.pairs answer.bytes
+  pub gives : outcome ≡ Enough (Gives (tree_at trees answer.value.0) answer.cost answer.pairs answer.bytes)
 
 -- It costs something, and what is left of the fuel suffices for it.
 pub record IsWithin (left : Fuel) (answer : Answer) : Type 0 where
@@ -32,21 +32,21 @@ pub record IsWithin (left : Fuel) (answer : Answer) : Type 0 where
   pub bytes : answer.bytes ≤ left.bytes
 
 -- The node is what the program raises.
-pub record IsRaised (trees : List Tree) (applied : Applied) (node : ℕ) : Type 0 where
+pub record IsRaised (trees : List Tree) (outcome : WithinFuel) (node : ℕ) : Type 0 where
   pub known : IsKnown trees node
-  pub raised : applied ≡ Fails (outcomes.Raised (tree_at trees node))
+  pub raised : outcome ≡ Enough (Fails (outcomes.Raised (tree_at trees node)))
 
 -- The fault is the operator's. Memory alone may be wanting at any time.
-abbrev pub IsOpFault : List Tree → Applied → OpFault → Type 0
-IsOpFault trees applied (fault.Operand place) = applied ≡ Fails (WrongOperand place)
-IsOpFault trees applied fault.Count = applied ≡ Fails WrongCount
-IsOpFault trees applied (fault.Raised node) = IsRaised trees applied node.0
-IsOpFault trees applied fault.ZeroDivisor = applied ≡ Fails ZeroDivisor
-IsOpFault trees applied fault.Shift = applied ≡ Fails WrongShift
-IsOpFault trees applied fault.NoOperator = applied ≡ Fails NoOperator
-IsOpFault trees applied fault.Wide = applied ≡ TooWide
-IsOpFault trees applied (fault.Spent which) = applied ≡ Lacks which
-IsOpFault trees applied fault.OutOfMemory = Unit {0}
+abbrev pub IsOpFault : List Tree → WithinFuel → OpFault → Type 0
+IsOpFault trees outcome (fault.Operand place) = outcome ≡ Enough (Fails (WrongOperand place))
+IsOpFault trees outcome fault.Count = outcome ≡ Enough (Fails WrongCount)
+IsOpFault trees outcome (fault.Raised node) = IsRaised trees outcome node.0
+IsOpFault trees outcome fault.ZeroDivisor = outcome ≡ Enough (Fails ZeroDivisor)
+IsOpFault trees outcome fault.Shift = outcome ≡ Enough (Fails WrongShift)
+IsOpFault trees outcome fault.NoOperator = outcome ≡ Enough (Fails NoOperator)
+IsOpFault trees outcome fault.Wide = outcome ≡ Enough TooWide
+IsOpFault trees outcome (fault.Spent which) = outcome ≡ Lacks which
+IsOpFault trees outcome fault.OutOfMemory = Unit {0}
 
 -- A law of the definition: what is given costs something and is within what is left.
 abbrev pub AnswersAreWithin : Type 0

@@ -1,12 +1,12 @@
--- What the reader's tokens stand for.
-use Rattle.clvm_spec.specs.Reading.{Front, Took, Flawed, Token}
+-- What the reader's pieces stand for.
+use Rattle.clvm_spec.specs.Reading.{Beginning, Begins, Flawed, PairMark}
 use Rattle.clvm_spec.specs.Reading
-use Rattle.clvm_tree.specs.declared.tokens.Piece.{Piece}
-use Rattle.clvm_tree.specs.declared.tokens.Piece.TheVariants.{Open, Leaf, Cut, LongSpelling, BadPrefix}
+use Rattle.clvm_tree.specs.declared.heads.Piece.{Piece}
+use Rattle.clvm_tree.specs.declared.heads.Piece.TheVariants.{Open, Leaf, Cut, LongSpelling, BadPrefix}
 
-abbrev pub front_of : Piece → Front
-front_of (Open rest) = Took Reading.Open rest.now
-front_of (Leaf atom rest) = Took (Reading.Leaf atom.now) rest.now
+abbrev pub front_of : Piece → Beginning
+front_of (Open rest) = Begins PairMark rest.now
+front_of (Leaf atom rest) = Begins (Reading.Leaf atom.now) rest.now
 front_of Cut = Flawed Reading.Cut
 front_of LongSpelling = Flawed Reading.LongSpelling
 front_of BadPrefix = Flawed Reading.BadPrefix

@@ -8,15 +8,16 @@ ghost use Rattle.clvm_tree.specs.declared.WriteFault.TheVariants as write_fault;
 mod arena;
 mod byte_hashes;
 mod hasher;
+mod heads;
 mod numbers;
 mod operators;
 mod reader;
-mod tokens;
 mod writer;
 
 pub use arena::{Sight, Trees};
 pub use clvm_spec::{Fuel, Which};
 pub use hasher::{Hash, atom_hash, pair_hash};
+pub use numbers::{number, unsigned};
 pub use operators::{Answer, OpFault, Operators};
 /// The error of a call that fails only for want of memory.
 pub use std::alloc::AllocError as OutOfMemory;

@@ -1,6 +1,6 @@
 ghost use Rattle.std.specs.Prelude.{◌≡◌, ◌+◌, ◌-◌, ◌*◌, ◌<◌, ◌≤◌, ◌^◌, length, map, IfOk, OnErr};
 ghost use Rattle.clvm_spec.specs.Tree.{Atom};
-ghost use Rattle.clvm_spec.specs.Numbers.{unsigned, shortest_atom};
+ghost use Rattle.clvm_spec.specs.Numbers.{unsigned, number, shortest_atom};
 ghost use Rattle.clvm_tree.specs.Nodes.{tree_at, IsKnown, Adds};
 ghost use Rattle.clvm_tree.specs.Numbers.{short_number, number_in};
 
@@ -9,7 +9,8 @@ use crate::{Node, OutOfMemory};
 use clvm_spec::shortest_bytes;
 use std::alloc::Global;
 
-fn unsigned(bytes: &[u8]) -> u128
+/// The number that big-endian bytes write, without sign. There are at most 16 of them.
+pub fn unsigned(bytes: &[u8]) -> u128
     requires { length bytes.now ≤ 16 }
     ensures { result ≡ unsigned bytes.now }
 {
@@ -32,17 +33,25 @@ fn unsigned_complement(bytes: &[u8]) -> u128
     value
 }
 
-fn number(bytes: &[u8]) -> Option<i128>
+/// The number of an atom's bytes, in two's complement. There are at most 16 of them.
+pub fn number(bytes: &[u8]) -> i128
+    requires { length bytes.now ≤ 16 }
+    ensures { result ≡ number bytes.now }
+{
+    match bytes {
+        [] => 0,
+        [first, ..] if *first < 0x80 => unsigned(bytes) as i128,
+        _ => -1 - unsigned_complement(bytes) as i128,
+    }
+}
+
+fn short_number(bytes: &[u8]) -> Option<i128>
     ensures { result ≡ short_number bytes.now }
 {
     if bytes.len() > 16 {
         return None;
     }
-    match bytes {
-        [] => Some(0),
-        [first, ..] if *first < 0x80 => Some(unsigned(bytes) as i128),
-        _ => Some(-1 - unsigned_complement(bytes) as i128),
-    }
+    Some(number(bytes))
 }
 
 impl Trees {
@@ -52,7 +61,7 @@ impl Trees {
         ensures { result ≡ number_in (tree_at self.now node.0) }
     {
         match self.look(node) {
-            Sight::Bytes(bytes) => number(bytes),
+            Sight::Bytes(bytes) => short_number(bytes),
             Sight::Parts(_, _) => None,
         }
     }

@@ -5,7 +5,7 @@ ghost use Rattle.clvm_tree.specs.Nodes.{tree_at, IsKnown, Grows};
 ghost use Rattle.clvm_tree.specs.Reads.{IsReadAs, IsReadFault, IsWholeFault, AreOpen, Closes};
 
 use crate::arena::Trees;
-use crate::tokens::{Piece, token};
+use crate::heads::{Piece, head};
 use crate::{Node, OutOfMemory, ReadFault};
 use std::alloc::Global;
 
@@ -50,9 +50,9 @@ impl Trees {
     {
         let mut begun = Vec::new(alloc);
         let mut rest = bytes;
-        'tokens: loop {
+        'heads: loop {
             let place = bytes.len() - rest.len();
-            match token(rest) {
+            match head(rest) {
                 Piece::Open(after) => {
                     begun.push(None)?;
                     rest = after;

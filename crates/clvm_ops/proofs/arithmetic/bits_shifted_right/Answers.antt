@@ -1,4 +1,4 @@
-use Rattle.std.proofs.Common.{◌≡◌, ◌/◌, ◌^◌, ◌<◌, pos, ap, sym, arith}
+use Rattle.std.proofs.Common.{pos, ap, sym, arith}
 use Rattle.std.specs.Int.{w128}
 use Rattle.std.proofs.lemmas.Int.{to_z_pos}
 use Rattle.clvm_ops.proofs.Fits.{halved, far_bits_right}

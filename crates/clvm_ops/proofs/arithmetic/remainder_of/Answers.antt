@@ -1,7 +1,7 @@
-use Rattle.std.proofs.Common.{◌∙◌, pos, ◌<ℤ◌, rules, arith}
+use Rattle.std.proofs.Common.{◌∙◌, pos, ◌<ℤ◌, rules}
 use Rattle.std.specs.Prelude.{FitsSigned}
 use Rattle.std.specs.Int.{w128}
-use Rattle.std.proofs.lemmas.Int.{ints, to_z-of_z}
+use Rattle.std.proofs.lemmas.Int.{to_z-of_z}
 use Rattle.clvm_ops.proofs.Rests.{rest_below}
 use Rattle.clvm_ops.proofs.arithmetic.remainder_of.Goals as goal
 

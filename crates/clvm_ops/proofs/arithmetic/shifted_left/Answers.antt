@@ -1,4 +1,4 @@
-use Rattle.std.proofs.Common.{◌≡◌, ◌∙◌, ap, pos, ◌^◌, ◌*ℤ◌, arith}
+use Rattle.std.proofs.Common.{◌∙◌, ap, ◌*ℤ◌, arith}
 use Rattle.std.specs.Int.{w128}
 use Rattle.std.proofs.lemmas.Int.{to_z-of_z, to_z_pos}
 use Rattle.std.proofs.lemmas.Nat.{one_shl, pow_below}

@@ -2,7 +2,7 @@ use Rattle.std.proofs.Common.{FitsSigned, sym, ap₂, ◌∙◌, rules}
 use Rattle.std.specs.Int.{w128}
 use Rattle.std.proofs.lemmas.Int.{to_z-of_z}
 use Rattle.clvm_spec.specs.Numbers.{shortest_atom}
-use Rattle.clvm_spec.specs.Operators.{pair_of_atoms}
+use Rattle.clvm_spec.specs.Operators.{written_pair}
 use Rattle.clvm_ops.proofs.Answered.{answers_same}
 use Rattle.clvm_ops.proofs.DivisionLaws.{pair_some}
 use Rattle.clvm_ops.proofs.division.give_division.Goals as goal
@@ -15,4 +15,4 @@ returns-in-Some c = λ n.
     let rest_is = simp (to_z-of_z, c.ranges.number, c.ranges.divisor) at c.remainder_of-remainder.ensures in
     answers_same c.args.trees.now c.give_two.new.trees n c.args.left _ _ _
     (pair_some c.args.cost c.in-Some.quotient c.remainder_of-remainder.result c.args.number c.args.divisor quotient_is rest_is rest_fits
-    ∙ ap₂ (λ a b. pair_of_atoms c.args.cost (shortest_atom a) (shortest_atom b)) (sym (to_z-of_z w128 _ quotient_fits)) (sym (to_z-of_z w128 _ rest_fits))) (c.give_two.ensures n)
+    ∙ ap₂ (λ a b. written_pair c.args.cost (shortest_atom a) (shortest_atom b)) (sym (to_z-of_z w128 _ quotient_fits)) (sym (to_z-of_z w128 _ rest_fits))) (c.give_two.ensures n)

@@ -1,4 +1,4 @@
-use Rattle.std.proofs.Common.{◌≡◌, length, ap, sym, ◌∙◌, arith, rules}
+use Rattle.std.proofs.Common.{◌≡◌, length, ap, ◌∙◌, arith, rules}
 use Rattle.std.proofs.lemmas.Int.{to_z-of_z}
 use Rattle.clvm_spec.specs.Numbers.{shortest_atom, without_sign_bytes}
 use Rattle.clvm_spec.proofs.ShortestLaws.{length-without}

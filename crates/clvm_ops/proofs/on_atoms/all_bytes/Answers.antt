@@ -1,4 +1,4 @@
-use Rattle.std.proofs.Common.{◌++◌, ◌∙◌, ap, ap₂, sym, arith}
+use Rattle.std.proofs.Common.{◌++◌, ◌∙◌, ap₂, sym, arith}
 use Rattle.clvm_ops.proofs.NodeLists.{known_at}
 use Rattle.clvm_ops.proofs.AtomLaws.{atoms_push}
 use Rattle.clvm_ops.proofs.on_atoms.all_bytes.Goals as goal

@@ -1,6 +1,7 @@
 use Rattle.std.proofs.Common.{FitsSigned, length, ap, sym, ◌∙◌, rules}
 use Rattle.std.specs.Int.{w128}
 use Rattle.std.proofs.lemmas.Int.{to_z-of_z}
+use Rattle.clvm_spec.specs.Outcomes.{Enough}
 use Rattle.clvm_spec.specs.Operators.{new_number}
 use Rattle.clvm_ops.proofs.Answered.{faulty, answers_same, refused_at_once}
 use Rattle.clvm_ops.proofs.FoldLaws.{product_or_wide}
@@ -22,4 +23,4 @@ pub returns-in-None : goal.returns-in-None
 returns-in-None c =
     let trees = c.args.trees.now in
     let read = product_of_is trees c.args.operands.now c.in_ok-numbers.field-0 c.whole_product.result c.in_ok-numbers.ensures.ok c.whole_product.ensures.product in
-    refused_at_once trees (length c.args.operands.now) c.args.left _ _ (read ∙ ap product_or_wide c.in-None.is)
+    refused_at_once trees (length c.args.operands.now) c.args.left _ _ (ap Enough (read ∙ ap product_or_wide c.in-None.is))

@@ -1,4 +1,4 @@
-use Rattle.std.proofs.Common.{arith, rules}
+use Rattle.std.proofs.Common.{arith}
 use Rattle.clvm_ops.proofs.Answered.{handed}
 use Rattle.clvm_ops.proofs.NodeLists.{known_at}
 use Rattle.clvm_ops.proofs.ReadLaws.{numbers_more, numbers_bad, numbers_whole}

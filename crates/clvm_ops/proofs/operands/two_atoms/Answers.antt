@@ -1,6 +1,6 @@
 use Rattle.clvm_ops.proofs.Answered.{handed}
 use Rattle.clvm_ops.proofs.NodeLists.{two_operands}
-use Rattle.clvm_ops.proofs.ReadLaws.{first_atom_bad, second_atom_bad, two_atoms_read}
+use Rattle.clvm_ops.proofs.ReadLaws.{first_atom_bad, second_atom_bad}
 use Rattle.clvm_ops.proofs.operands.two_atoms.Goals as goal
 
 pub returns-in_err-first-clause-err : goal.returns-in_err-first-clause-err

@@ -1,6 +1,6 @@
 use Rattle.clvm_ops.proofs.Answered.{handed}
 use Rattle.clvm_ops.proofs.NodeLists.{two_operands}
-use Rattle.clvm_ops.proofs.ReadLaws.{first_number_bad, second_number_bad, two_numbers_read}
+use Rattle.clvm_ops.proofs.ReadLaws.{first_number_bad, second_number_bad}
 use Rattle.clvm_ops.proofs.operands.two_numbers.Goals as goal
 
 pub returns-in_err-first-clause-err : goal.returns-in_err-first-clause-err

@@ -1,7 +1,7 @@
 use Rattle.std.proofs.Common.{ap, sym, ◌∙◌}
 use Rattle.std.proofs.lemmas.Int.{to_z-of_z}
 use Rattle.clvm_spec.specs.Tree.{Atom}
-use Rattle.clvm_spec.specs.Operators.{part}
+use Rattle.clvm_ops.specs.Answering.{part}
 use Rattle.clvm_ops.proofs.Answered.{spent, answers_same}
 use Rattle.clvm_ops.proofs.parts.give_part.Goals as goal
 

@@ -1,8 +1,8 @@
 ghost use Rattle.std.specs.Prelude.{◌≡◌, ◌+◌, ◌*◌, ◌-◌, ◌<◌};
-ghost use Rattle.clvm_spec.specs.Reading.{token_at, leaf, atom_behind, long_atom, behind_two, behind_three, behind_four};
+ghost use Rattle.clvm_spec.specs.Reading.{head_at, leaf, atom_behind, long_atom, behind_two, behind_three, behind_four};
 ghost use Rattle.clvm_tree.specs.Pieces.{front_of};
 
-/// The token at the front of bytes and what follows it, or the flaw there.
+/// The head at the front of bytes and what follows it, or the flaw there.
 #[derive(Clone, Copy, Debug)]
 pub(crate) enum Piece<'a> {
     Open(&'a [u8]),
@@ -76,10 +76,10 @@ fn four(high: u8, bytes: &[u8]) -> Piece<'_>
     }
 }
 
-/// The token at the front.
-#[tactic(auto, unfolding(clvm_spec::specs::Reading::token_at))]
-pub(crate) fn token(bytes: &[u8]) -> Piece<'_>
-    ensures { front_of result ≡ token_at bytes.now }
+/// The head at the front.
+#[tactic(auto, unfolding(clvm_spec::specs::Reading::head_at))]
+pub(crate) fn head(bytes: &[u8]) -> Piece<'_>
+    ensures { front_of result ≡ head_at bytes.now }
 {
     match bytes {
         [b, rest @ ..] => match *b {
