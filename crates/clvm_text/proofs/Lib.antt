@@ -1,5 +1,4 @@
 pub mod PrintLaws
-pub mod WordLaws
 pub mod FrameLaws
 pub mod StepLaws
 pub mod NameLaws

@@ -1,56 +1,20 @@
 -- What is printed of pending trees, and the texts of atoms.
-use Rattle.std.proofs.Common.{◌≡◌, ℕ, zero, suc, ◌+◌, ◌*◌, ◌/◌, ◌%◌, ◌<◌, ◌≤◌, Bool, true, false, cond, ◌&&◌, nat_le, List, [], ◌∷◌, ◌++◌, length, refl, sym, ◌∙◌, ap, arith, append_assoc}
-use Rattle.std.specs.Prelude.{bytes_eq, nat_eq, flat_map, slice_index}
-use Rattle.std.specs.Fmt.{digit_glyph}
+use Rattle.std.proofs.Common.{◌≡◌, ℕ, ◌+◌, ◌<◌, ◌≤◌, Bool, true, false, cond, ◌&&◌, nat_le, List, [], ◌∷◌, ◌++◌, length, refl, sym, ◌∙◌, ap, arith, append_assoc}
+use Rattle.std.specs.Prelude.{bytes_eq, nat_eq}
 use Rattle.std.specs.Int.Digits.{AllBelowBase}
 use Rattle.std.proofs.lemmas.List.{append-nil, length-append}
 use Rattle.std.proofs.lemmas.Slice.Eq.{bytes_eq-Decides}
 use Rattle.std.proofs.lemmas.Bool.Decides.{nat_tests}
-use Rattle.hex.specs.Hex.{lower_digits, encode_with, encode_lower}
 use Rattle.clvm_spec.specs.Tree.{Tree, Pair}
 use Rattle.clvm_spec.specs.Numbers.{number, shortest_atom, has_sign_byte, without_sign_bytes}
 use Rattle.clvm_spec.specs.Text as text
-use Rattle.clvm_spec.specs.Text.{hex_digits, is_short_number, text_at}
+use Rattle.clvm_spec.specs.Text.{is_short_number, text_at}
 use Rattle.clvm_spec.proofs.ShortestLaws.{shortest-number, length-without}
 use Rattle.clvm_tree.specs.Nodes.{tree_at, IsKnown, HasParts}
 use Rattle.clvm_text.specs.declared.printer.Position.{Position}
 use Rattle.clvm_text.specs.declared.printer.Position.TheVariants.{Head, Alone, Rest}
 use Rattle.clvm_text.specs.declared.printer.Pending.{Pending}
 use Rattle.clvm_text.specs.Positions.{position_of, opening, first_of, text_of, texts, AreKnown}
-
--- ---- hexadecimal
-
-glyph : (d : ℕ) → d < 16 → slice_index lower_digits d ≡ digit_glyph false d
-glyph zero h = refl
-glyph (suc zero) h = refl
-glyph (suc (suc zero)) h = refl
-glyph (suc (suc (suc zero))) h = refl
-glyph (suc (suc (suc (suc zero)))) h = refl
-glyph (suc (suc (suc (suc (suc zero))))) h = refl
-glyph (suc (suc (suc (suc (suc (suc zero)))))) h = refl
-glyph (suc (suc (suc (suc (suc (suc (suc zero))))))) h = refl
-glyph (suc (suc (suc (suc (suc (suc (suc (suc zero)))))))) h = refl
-glyph (suc (suc (suc (suc (suc (suc (suc (suc (suc zero))))))))) h = refl
-glyph (suc (suc (suc (suc (suc (suc (suc (suc (suc (suc zero)))))))))) h = refl
-glyph (suc (suc (suc (suc (suc (suc (suc (suc (suc (suc (suc zero))))))))))) h = refl
-glyph (suc (suc (suc (suc (suc (suc (suc (suc (suc (suc (suc (suc zero)))))))))))) h = refl
-glyph (suc (suc (suc (suc (suc (suc (suc (suc (suc (suc (suc (suc (suc zero))))))))))))) h = refl
-glyph (suc (suc (suc (suc (suc (suc (suc (suc (suc (suc (suc (suc (suc (suc zero)))))))))))))) h = refl
-glyph (suc (suc (suc (suc (suc (suc (suc (suc (suc (suc (suc (suc (suc (suc (suc zero))))))))))))))) h = refl
-glyph (suc (suc (suc (suc (suc (suc (suc (suc (suc (suc (suc (suc (suc (suc (suc (suc d)))))))))))))))) h = absurd (omega arith)
-
-pub encoded : (bytes : List ℕ) → AllBelowBase 256 bytes → encode_lower bytes ≡ flat_map hex_digits bytes
-unfolding encode_with
-encoded [] h = refl
-encoded (b ∷ bytes) h =
-    let below = h.0 in
-    ap (λ d. d ∷ slice_index lower_digits (b % 16) ∷ encode_lower bytes) (glyph (b / 16) (omega arith))
-    ∙ ap (λ d. digit_glyph false (b / 16) ∷ d ∷ encode_lower bytes) (glyph (b % 16) (omega arith))
-    ∙ ap (λ s. digit_glyph false (b / 16) ∷ digit_glyph false (b % 16) ∷ s) (encoded bytes h.1)
-
-pub length-hex : (bytes : List ℕ) → length (flat_map hex_digits bytes) ≡ 2 * length bytes
-length-hex [] = refl
-length-hex (b ∷ bytes) = omega (arith, length-hex bytes)
 
 -- ---- short numbers
 

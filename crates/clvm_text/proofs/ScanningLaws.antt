@@ -1,29 +1,26 @@
 -- Tokens of a text, by their places.
-use Rattle.std.proofs.Common.{◌≡◌, ℕ, suc, ◌+◌, ◌-◌, ◌<◌, ◌≤◌, Bool, true, false, cond, nat_lt, List, length, drop, Option, None, Some, refl, sym, ◌∙◌, ap, subst, arith}
+use Rattle.std.proofs.Common.{◌≡◌, ℕ, suc, ◌<◌, ◌≤◌, true, false, cond, nat_lt, List, [], ◌∷◌, length, drop, Option, None, Some, refl, sym, ◌∙◌, ap, subst, arith}
 use Rattle.std.specs.Prelude.{is_none}
-use Rattle.std.proofs.lemmas.List.{length-drop, drop-drop}
+use Rattle.std.proofs.lemmas.List.{length-drop}
 use Rattle.std.proofs.lemmas.Bool.Decides.{nat_tests}
 use Rattle.clvm_spec.specs.declared.scan_kind.ScanKind.{ScanKind}
+use Rattle.clvm_spec.specs.declared.scan_kind.ScanKind.TheVariants as kind
 use Rattle.clvm_spec.specs.Tree.{Tree}
 use Rattle.clvm_spec.specs.OperatorTable.{Operator, operator_named}
-use Rattle.clvm_spec.specs.Tokens.{Token, Front, Took, without_blanks, at_front, token_of, place_of}
+use Rattle.clvm_spec.specs.Tokens.{Token, Opening, Closing, Point, Literal, Symbol, Front, Took, Unread, AtEnd, token_of, place_of}
 use Rattle.clvm_spec.specs.Text.{Parsed, Parses, form_of, Scanned, Scans, Unreadable, Unnamed, LeftOver, at_last, whole, unnamed_symbol, unnamed_token, unnamed_at, unnamed_within, end_of, unless_unnamed, scanned}
-use Rattle.clvm_spec.proofs.ScanLaws.{Stands, stands, blanks_suffix, fewer_behind, names_law}
-use Rattle.clvm_tree.proofs.ResumeLaws.{drop_by_length}
+use Rattle.clvm_spec.proofs.ScanLaws.{names_law}
+use Rattle.text_tokens.specs.Ends.{IsEnd}
 use Rattle.clvm_text.specs.declared.TextFault.{TextFault}
 use Rattle.clvm_text.specs.declared.TextFault.TheVariants.{Read, Name, Left, OutOfMemory}
-use Rattle.clvm_text.specs.declared.words.Leaf.{Leaf}
-use Rattle.clvm_text.specs.declared.words.Leaf.TheVariants as leaf
-use Rattle.clvm_text.specs.declared.tokens.Piece.{Piece}
-use Rattle.clvm_text.specs.declared.tokens.Piece.TheVariants as piece
-use Rattle.clvm_text.specs.Pieces.{token_of_leaf}
-use Rattle.clvm_text.specs.Fronts.{front_of, IsTaken, IsThere}
 use Rattle.clvm_tree.specs.declared.Node.{Node}
 use Rattle.clvm_text.specs.declared.frames.Frame.{Frame}
 use Rattle.clvm_text.specs.declared.frames.Mode.{Mode}
 use Rattle.clvm_text.specs.declared.frames.Step.TheVariants.{Done, Goes}
-use Rattle.clvm_text.specs.Frames.{told, IsBroken, Takes, Stops}
-use Rattle.clvm_text.specs.Scans.{IsFormAt, IsWholeFault, IsTextFault, is_taken, is_unnamed_leaf, is_unnamed, named_or}
+use Rattle.clvm_text.specs.Leaves.{is_unnamed}
+use Rattle.clvm_text.specs.Frames.{told, at_token, dot_of, first_dot, fault_behind, AreDotsWithin, IsDotWithin, IsBroken, Takes, Stops}
+use Rattle.clvm_text.specs.Scans.{IsFormAt, IsWholeFault, IsTextFault, named_or}
+use Rattle.clvm_text.proofs.StepLaws.{stops_at, unread, at_end}
 
 true_false : true ≡ false → ⊥
 true_false e = cc
@@ -31,96 +28,24 @@ true_false e = cc
 false_true : false ≡ true → ⊥
 false_true e = cc
 
--- where the token of a rest of the text stands
-pub record Placed (text rest from : List ℕ) (piece : Piece) (after : List ℕ) : Type 0 where
-  pub within : length from ≤ length rest
-  pub short : length rest ≤ length text
-  pub from_is : from ≡ drop (length text - length from) text
-  pub token_is : token_of rest ≡ front_of from piece after
-  pub there : IsThere piece from
-
-front_is : (rest from : List ℕ) → from ≡ without_blanks false rest → token_of rest ≡ at_front from
-unfolding token_of
-front_is rest from e = ap at_front (sym e)
-
-there_by : (from bytes : List ℕ) (p : Piece) (after : List ℕ) → bytes ≡ from → Stands bytes (front_of from p after) → IsThere p from
-there_by from bytes piece.Opening after e s = tt
-there_by from bytes piece.Closing after e s = tt
-there_by from bytes piece.Point after e s = tt
-there_by from bytes (piece.Form l) after e s = tt
-there_by from bytes (piece.Bad kind) after e s = tt
-there_by from bytes piece.End after e s = sym e ∙ s
-
-pub placed : (text rest from : List ℕ) (p : Piece) (after : List ℕ) (k : ℕ) → rest ≡ drop k text → from ≡ without_blanks false rest → front_of from p after ≡ at_front from → Placed text rest from p after
-placed text rest from p after k suffix blanks front =
-    let token = front_is rest from blanks ∙ sym front in
-    let behind = blanks_suffix rest in
-    let from_drop : from ≡ drop (k + behind.0) text = blanks ∙ behind.1 ∙ ap (drop behind.0) suffix ∙ drop-drop behind.0 k text in
-    record {
-      within = omega (arith, fewer_behind rest, ap length blanks);
-      short = omega (arith, ap length suffix, length-drop k text);
-      from_is = drop_by_length text from (k + behind.0) from_drop;
-      token_is = token;
-      there = there_by from (without_blanks false rest) p after (sym blanks) (subst (Stands (without_blanks false rest)) token (stands rest));
-    }
-
--- what is behind a token
-pub record Behind (text rest after : List ℕ) : Type 0 where
-  pub less : length after < length rest
-  pub less_from : length after < length (without_blanks false rest)
-  pub suffix : (j : ℕ) × (after ≡ drop j text)
-
-behind_took : (text rest : List ℕ) (token : Token) (from after : List ℕ) (k : ℕ) → rest ≡ drop k text → token_of rest ≡ Took token from after → Behind text rest after
-behind_took text rest token from after k suffix e =
-    let s = subst (Stands (without_blanks false rest)) e (stands rest) in
-    let b = blanks_suffix rest in
-    record {
-      less = omega (arith, s.1, fewer_behind rest);
-      less_from = s.1;
-      suffix = (k + (b.0 + s.2.0), s.2.1 ∙ ap (drop s.2.0) (b.1 ∙ ap (drop b.0) suffix ∙ drop-drop b.0 k text) ∙ drop-drop s.2.0 (k + b.0) text ∙ ap (λ n. drop n text) (sum k b.0 s.2.0));
-    }
-  where
-    sum : (a b c : ℕ) → a + b + c ≡ a + (b + c)
-    sum a b c = omega arith
-
-pub behind : (text rest from : List ℕ) (p : Piece) (after : List ℕ) (k : ℕ) → rest ≡ drop k text → token_of rest ≡ front_of from p after → IsTaken p → Behind text rest after
-behind text rest from piece.Opening after k suffix e t = behind_took text rest _ from after k suffix e
-behind text rest from piece.Closing after k suffix e t = behind_took text rest _ from after k suffix e
-behind text rest from piece.Point after k suffix e t = behind_took text rest _ from after k suffix e
-behind text rest from (piece.Form l) after k suffix e t = behind_took text rest _ from after k suffix e
-behind text rest from (piece.Bad kind) after k suffix e t = absurd t
-behind text rest from piece.End after k suffix e t = absurd t
-
-pub is_taken_true : (p : Piece) → is_taken p ≡ true → IsTaken p
-is_taken_true piece.Opening e = tt
-is_taken_true piece.Closing e = tt
-is_taken_true piece.Point e = tt
-is_taken_true (piece.Form l) e = tt
-is_taken_true (piece.Bad kind) e = absurd (false_true e)
-is_taken_true piece.End e = absurd (false_true e)
-
-pub within_text : (text rest from : List ℕ) (k : ℕ) → rest ≡ drop k text → from ≡ without_blanks false rest → length from ≤ length text
-within_text text rest from k suffix blanks = omega (arith, fewer_behind rest, ap length blanks, ap length suffix, length-drop k text)
-
 -- ---- one more token
 
 -- what is told of the text is told of its next token, at its place
-at_place : (old : List Tree) (text rest from after : List ℕ) (frames : List Frame) (awaited : Mode) (p : Piece) → Placed text rest from p after → form_of text ≡ told old text frames awaited (token_of rest) →
-    form_of text ≡ told old text frames awaited (front_of (drop (length text - length from) text) p after)
-at_place old text rest from after frames awaited p at same =
-    same ∙ ap (told old text frames awaited) at.token_is ∙ ap (λ f. told old text frames awaited (front_of f p after)) at.from_is
+at_place : (old : List Tree) (text rest from after : List ℕ) (frames : List Frame) (awaited : Mode) (token : Token) → IsEnd from text → token_of rest ≡ Took token from after → form_of text ≡ told old text frames awaited (token_of rest) →
+    form_of text ≡ told old text frames awaited (Took token (drop (place_of text from) text) after)
+at_place old text rest from after frames awaited token end is same = same ∙ ap (told old text frames awaited) is ∙ ap (λ f. told old text frames awaited (Took token f after)) end.stands
 
-pub done_form : (old new : List Tree) (text rest from after : List ℕ) (before later : List Frame) (awaited : Mode) (p : Piece) (whole : Node) (k : ℕ) → rest ≡ drop k text → Placed text rest from p after → IsTaken p → form_of text ≡ told old text before awaited (token_of rest) →
-    Takes old before awaited (length text - length from) p new later (Done whole) → IsFormAt new text whole.0 after
-done_form old new text rest from after before later awaited p whole k suffix at taken same t = record {
+pub done_form : (old new : List Tree) (text rest from after : List ℕ) (before later : List Frame) (awaited : Mode) (token : Token) (whole : Node) → IsEnd from text → IsEnd after text → token_of rest ≡ Took token from after → form_of text ≡ told old text before awaited (token_of rest) →
+    Takes old before awaited (place_of text from) token new later (Done whole) → IsFormAt new text whole.0 after
+done_form old new text rest from after before later awaited token whole end behind is same t = record {
   known = t.0;
-  found = at_place old text rest from after before awaited p at same ∙ t.1 text after;
-  suffix = (behind text rest from p after k suffix at.token_is taken).suffix;
+  found = at_place old text rest from after before awaited token end is same ∙ t.1 text after;
+  end = behind;
 }
 
-pub goes_form : (old new : List Tree) (text rest from after : List ℕ) (before later : List Frame) (awaited next : Mode) (p : Piece) → Placed text rest from p after → form_of text ≡ told old text before awaited (token_of rest) →
-    Takes old before awaited (length text - length from) p new later (Goes next) → form_of text ≡ told new text later next (token_of after)
-goes_form old new text rest from after before later awaited next p at same t = at_place old text rest from after before awaited p at same ∙ t.2 text after
+pub goes_form : (old new : List Tree) (text rest from after : List ℕ) (before later : List Frame) (awaited next : Mode) (token : Token) → IsEnd from text → token_of rest ≡ Took token from after → form_of text ≡ told old text before awaited (token_of rest) →
+    Takes old before awaited (place_of text from) token new later (Goes next) → form_of text ≡ told new text later next (token_of after)
+goes_form old new text rest from after before later awaited next token end is same t = at_place old text rest from after before awaited token end is same ∙ t.2 text after
 
 broken_later : (a b : ℕ) (text : List ℕ) (fault : TextFault) (parsed : Parsed) → a ≤ b → IsBroken a text fault parsed → IsBroken b text fault parsed
 broken_later a b text (Read kind place) parsed le h = (omega (arith, le, h.0), h.1)
@@ -128,15 +53,38 @@ broken_later a b text (Name place) parsed le h = h
 broken_later a b text (Left place) parsed le h = h
 broken_later a b text OutOfMemory parsed le h = tt
 
-pub stops_form : (old : List Tree) (text rest from after : List ℕ) (before : List Frame) (awaited : Mode) (p : Piece) (fault : TextFault) → Placed text rest from p after → form_of text ≡ told old text before awaited (token_of rest) →
-    Stops old before awaited (length text - length from) p fault → IsBroken (length text) text fault (form_of text)
-stops_form old text rest from after before awaited p fault at same s =
-    subst (IsBroken (length text) text fault) (sym (at_place old text rest from after before awaited p at same))
-    (broken_later (length text - length from) (length text) text fault (told old text before awaited (front_of (drop (length text - length from) text) p after)) (omega arith) (s text after (subst (IsThere p) at.from_is at.there)))
+pub stops_form : (old : List Tree) (text rest from after : List ℕ) (before : List Frame) (awaited : Mode) (token : Token) (fault : TextFault) → IsEnd from text → token_of rest ≡ Took token from after → form_of text ≡ told old text before awaited (token_of rest) →
+    Stops old before awaited (place_of text from) token fault → IsBroken (length text) text fault (form_of text)
+stops_form old text rest from after before awaited token fault end is same s =
+    subst (IsBroken (length text) text fault) (sym (at_place old text rest from after before awaited token end is same))
+    (broken_later (place_of text from) (length text) text fault (told old text before awaited (Took token (drop (place_of text from) text) after)) (omega arith) (s text after))
+
+-- no token can be read
+pub unread_form : (old : List Tree) (text rest from : List ℕ) (frames : List Frame) (awaited : Mode) (what : ScanKind) (fault : TextFault) → IsEnd from text → token_of rest ≡ Unread what from → form_of text ≡ told old text frames awaited (token_of rest) →
+    AreDotsWithin (place_of text from) frames → IsDotWithin (place_of text from) awaited → fault ≡ fault_behind (first_dot frames (dot_of awaited)) what (place_of text from) → IsBroken (length text) text fault (form_of text)
+unread_form old text rest from frames awaited what fault end is same dots dot e =
+    subst (IsBroken (length text) text fault) (sym (same ∙ ap (told old text frames awaited) is))
+    (broken_later (place_of text from) (length text) text fault (told old text frames awaited (Unread what from)) (omega arith)
+    (stops_at old text frames awaited what (place_of text from) fault (at_token old text awaited (Unread what from)) dots dot e
+    (ap (λ f. at_token old text awaited (Unread what f)) end.stands ∙ unread old text awaited what (drop (place_of text from) text))))
+
+past_end : (text : List ℕ) → drop (length text) text ≡ []
+past_end text = empty (drop (length text) text) (omega (arith, length-drop (length text) text))
+  where
+    empty : (xs : List ℕ) → length xs ≡ 0 → xs ≡ []
+    empty [] h = refl
+    empty (x ∷ xs) h = absurd (omega (arith, h))
+
+-- the text ends
+pub ended_form : (old : List Tree) (text rest : List ℕ) (frames : List Frame) (awaited : Mode) (fault : TextFault) → token_of rest ≡ AtEnd → form_of text ≡ told old text frames awaited (token_of rest) →
+    AreDotsWithin (length text) frames → IsDotWithin (length text) awaited → fault ≡ fault_behind (first_dot frames (dot_of awaited)) kind.End (length text) → IsBroken (length text) text fault (form_of text)
+ended_form old text rest frames awaited fault is same dots dot e =
+    subst (IsBroken (length text) text fault) (sym (same ∙ ap (told old text frames awaited) is))
+    (stops_at old text frames awaited kind.End (length text) fault (at_token old text awaited AtEnd) dots dot e (at_end old text awaited (drop (length text) text) (past_end text)))
 
 -- what stands behind the form
-pub whole_at : (text : List ℕ) (tree : Tree) (rest from : List ℕ) (p : Piece) (after : List ℕ) → form_of text ≡ Parses tree rest → Placed text rest from p after → whole text (form_of text) ≡ at_last text tree (front_of from p after)
-whole_at text tree rest from p after found at = ap (whole text) found ∙ ap (at_last text tree) at.token_is
+pub whole_at : (text : List ℕ) (tree : Tree) (rest : List ℕ) (front : Front) → form_of text ≡ Parses tree rest → token_of rest ≡ front → whole text (form_of text) ≡ at_last text tree front
+whole_at text tree rest front found is = ap (whole text) found ∙ ap (at_last text tree) is
 
 -- ---- the whole text
 
@@ -149,90 +97,60 @@ whole_broken text (Name place) h = h
 whole_broken text (Left place) h = absurd h
 whole_broken text OutOfMemory h = tt
 
-past : (place end : ℕ) → end ≤ place → nat_lt place end ≡ false
-past place end h = grind (arith, nat_tests)
-
 -- ---- names
 
 abbrev pub names : List ℕ → ℕ → List ℕ → Option ℕ
 names text end rest = unnamed_within (length rest) text end rest
 
-none_if : (test : Bool) (found : Option ℕ) → test ≡ false → cond test found None ≡ None
-none_if true found e = absurd (true_false e)
-none_if false found e = refl
-
-first_name : (text : List ℕ) (end : ℕ) (rest : List ℕ) (front : Front) → token_of rest ≡ front → names text end rest ≡ unnamed_at (unnamed_within (length rest) text end) text end front
+pub first_name : (text : List ℕ) (end : ℕ) (rest : List ℕ) (front : Front) → token_of rest ≡ front → names text end rest ≡ unnamed_at (unnamed_within (length rest) text end) text end front
 first_name text end rest front e = sym (names_law (suc (length rest)) text end rest (omega arith)) ∙ ap (unnamed_at (unnamed_within (length rest) text end) text end) e
 
-pub no_token : (text : List ℕ) (end : ℕ) (rest from : List ℕ) (p : Piece) (after : List ℕ) → token_of rest ≡ front_of from p after → is_taken p ≡ false → names text end rest ≡ None
-no_token text end rest from piece.Opening after e t = absurd (true_false t)
-no_token text end rest from piece.Closing after e t = absurd (true_false t)
-no_token text end rest from piece.Point after e t = absurd (true_false t)
-no_token text end rest from (piece.Form l) after e t = absurd (true_false t)
-no_token text end rest from (piece.Bad kind) after e t = first_name text end rest _ e
-no_token text end rest from piece.End after e t = first_name text end rest _ e
-
--- a token at the end or behind it
-pub no_more : (text : List ℕ) (end : ℕ) (rest from : List ℕ) (p : Piece) (after : List ℕ) → token_of rest ≡ front_of from p after → IsTaken p → end ≤ place_of text from → names text end rest ≡ None
-no_more text end rest from piece.Opening after e t le = first_name text end rest _ e ∙ none_if (nat_lt (place_of text from) end) _ (past (place_of text from) end le)
-no_more text end rest from piece.Closing after e t le = first_name text end rest _ e ∙ none_if (nat_lt (place_of text from) end) _ (past (place_of text from) end le)
-no_more text end rest from piece.Point after e t le = first_name text end rest _ e ∙ none_if (nat_lt (place_of text from) end) _ (past (place_of text from) end le)
-no_more text end rest from (piece.Form l) after e t le = first_name text end rest _ e ∙ none_if (nat_lt (place_of text from) end) _ (past (place_of text from) end le)
-no_more text end rest from (piece.Bad kind) after e t le = absurd t
-no_more text end rest from piece.End after e t le = absurd t
-
-leaf_named : (l : Leaf) (place : ℕ) (later : Option ℕ) → is_unnamed_leaf l ≡ false → unnamed_token (token_of_leaf l) place later ≡ later
-leaf_named (leaf.Number n) place later e = refl
-leaf_named (leaf.Digits digits) place later e = refl
-leaf_named (leaf.Quoted bytes) place later e = refl
-leaf_named (leaf.Symbol name) place later e = symbol (operator_named name.now) e
-  where
-    symbol : (o : Option Operator) → is_none o ≡ false → unnamed_symbol o place later ≡ later
-    symbol None e = absurd (true_false e)
-    symbol (Some row) e = refl
-
-leaf_unnamed : (l : Leaf) (place : ℕ) (later : Option ℕ) → is_unnamed_leaf l ≡ true → unnamed_token (token_of_leaf l) place later ≡ Some place
-leaf_unnamed (leaf.Number n) place later e = absurd (false_true e)
-leaf_unnamed (leaf.Digits digits) place later e = absurd (false_true e)
-leaf_unnamed (leaf.Quoted bytes) place later e = absurd (false_true e)
-leaf_unnamed (leaf.Symbol name) place later e = symbol (operator_named name.now) e
-  where
-    symbol : (o : Option Operator) → is_none o ≡ true → unnamed_symbol o place later ≡ Some place
-    symbol None e = refl
-    symbol (Some row) e = absurd (false_true e)
-
-some_if : (test : Bool) (found : Option ℕ) → test ≡ true → cond test found None ≡ found
-some_if true found e = refl
-some_if false found e = absurd (false_true e)
+past : (place end : ℕ) → end ≤ place → nat_lt place end ≡ false
+past place end h = grind (arith, nat_tests)
 
 before : (place end : ℕ) → place < end → nat_lt place end ≡ true
 before place end h = grind (arith, nat_tests)
 
+-- a token at the end or behind it
+pub no_more : (text : List ℕ) (end : ℕ) (rest from after : List ℕ) (token : Token) → token_of rest ≡ Took token from after → end ≤ place_of text from → names text end rest ≡ None
+no_more text end rest from after token is le =
+    first_name text end rest _ is ∙ ap (λ t. cond t (unnamed_token token (place_of text from) (unnamed_within (length rest) text end after)) None) (past (place_of text from) end le)
+
+within_end : (text : List ℕ) (end : ℕ) (rest from after : List ℕ) (token : Token) → token_of rest ≡ Took token from after → place_of text from < end →
+    names text end rest ≡ unnamed_token token (place_of text from) (unnamed_within (length rest) text end after)
+within_end text end rest from after token is lt =
+    first_name text end rest _ is ∙ ap (λ t. cond t (unnamed_token token (place_of text from) (unnamed_within (length rest) text end after)) None) (before (place_of text from) end lt)
+
+named_symbol : (o : Option Operator) (place : ℕ) (later : Option ℕ) → is_none o ≡ false → unnamed_symbol o place later ≡ later
+named_symbol None place later e = absurd (true_false e)
+named_symbol (Some row) place later e = refl
+
+named_token : (token : Token) (place : ℕ) (later : Option ℕ) → is_unnamed token ≡ false → unnamed_token token place later ≡ later
+named_token Opening place later e = refl
+named_token Closing place later e = refl
+named_token Point place later e = refl
+named_token (Literal bytes) place later e = refl
+named_token (Symbol name) place later e = named_symbol (operator_named name) place later e
+
+unnamed_is : (o : Option Operator) (place : ℕ) (later : Option ℕ) → is_none o ≡ true → unnamed_symbol o place later ≡ Some place
+unnamed_is None place later e = refl
+unnamed_is (Some row) place later e = absurd (false_true e)
+
+without_name : (token : Token) (place : ℕ) (later : Option ℕ) → is_unnamed token ≡ true → unnamed_token token place later ≡ Some place
+without_name Opening place later e = absurd (false_true e)
+without_name Closing place later e = absurd (false_true e)
+without_name Point place later e = absurd (false_true e)
+without_name (Literal bytes) place later e = absurd (false_true e)
+without_name (Symbol name) place later e = unnamed_is (operator_named name) place later e
+
 -- a token before the end that has a name, or is none
-pub next_token : (text : List ℕ) (end : ℕ) (rest from : List ℕ) (p : Piece) (after : List ℕ) (k : ℕ) → rest ≡ drop k text → token_of rest ≡ front_of from p after → IsTaken p → place_of text from < end → is_unnamed p ≡ false → names text end rest ≡ names text end after
-next_token text end rest from p after k suffix e t lt u =
-    let b = behind text rest from p after k suffix e t in
-    first_name text end rest (front_of from p after) e ∙ step p t u ∙ names_law (length rest) text end after (omega (arith, b.less))
-  where
-    step : (q : Piece) → IsTaken q → is_unnamed q ≡ false → unnamed_at (unnamed_within (length rest) text end) text end (front_of from q after) ≡ unnamed_within (length rest) text end after
-    step piece.Opening t u = some_if (nat_lt (place_of text from) end) _ (before (place_of text from) end lt)
-    step piece.Closing t u = some_if (nat_lt (place_of text from) end) _ (before (place_of text from) end lt)
-    step piece.Point t u = some_if (nat_lt (place_of text from) end) _ (before (place_of text from) end lt)
-    step (piece.Form l) t u = some_if (nat_lt (place_of text from) end) _ (before (place_of text from) end lt) ∙ leaf_named l (place_of text from) (unnamed_within (length rest) text end after) u
-    step (piece.Bad kind) t u = absurd t
-    step piece.End t u = absurd t
+pub next_token : (text : List ℕ) (end : ℕ) (rest from after : List ℕ) (token : Token) → token_of rest ≡ Took token from after → length after < length rest → place_of text from < end → is_unnamed token ≡ false → names text end rest ≡ names text end after
+next_token text end rest from after token is less lt named =
+    within_end text end rest from after token is lt ∙ named_token token (place_of text from) _ named ∙ names_law (length rest) text end after (omega (arith, less))
 
 -- a symbol before the end without a name
-pub first_unnamed : (text : List ℕ) (end : ℕ) (rest from : List ℕ) (p : Piece) (after : List ℕ) → token_of rest ≡ front_of from p after → place_of text from < end → is_unnamed p ≡ true → names text end rest ≡ Some (place_of text from)
-first_unnamed text end rest from p after e lt u = first_name text end rest (front_of from p after) e ∙ step p u
-  where
-    step : (q : Piece) → is_unnamed q ≡ true → unnamed_at (unnamed_within (length rest) text end) text end (front_of from q after) ≡ Some (place_of text from)
-    step piece.Opening u = absurd (false_true u)
-    step piece.Closing u = absurd (false_true u)
-    step piece.Point u = absurd (false_true u)
-    step (piece.Form l) u = some_if (nat_lt (place_of text from) end) _ (before (place_of text from) end lt) ∙ leaf_unnamed l (place_of text from) (unnamed_within (length rest) text end after) u
-    step (piece.Bad kind) u = absurd (false_true u)
-    step piece.End u = absurd (false_true u)
+pub first_unnamed : (text : List ℕ) (end : ℕ) (rest from after : List ℕ) (token : Token) → token_of rest ≡ Took token from after → place_of text from < end → is_unnamed token ≡ true → names text end rest ≡ Some (place_of text from)
+first_unnamed text end rest from after token is lt u = within_end text end rest from after token is lt ∙ without_name token (place_of text from) _ u
 
 -- ---- all faults
 

@@ -4,7 +4,7 @@ use Rattle.std.proofs.lemmas.Bool.Decides.{nat_tests}
 use Rattle.clvm_spec.specs.declared.scan_kind.ScanKind.{ScanKind}
 use Rattle.clvm_spec.specs.declared.scan_kind.ScanKind.TheVariants as kind
 use Rattle.clvm_spec.specs.Tree.{Tree}
-use Rattle.clvm_spec.specs.Tokens.{Front, Took, Unread, AtEnd, token_of}
+use Rattle.clvm_spec.specs.Tokens.{Token, Front, Took, Unread, AtEnd, token_of}
 use Rattle.clvm_spec.specs.Tokens as tokens
 use Rattle.clvm_spec.specs.Text.{Parsed, Parses, Breaks, opened, form_at, with_rest, list_at}
 use Rattle.clvm_spec.specs.TextLaws.{list_from}
@@ -15,13 +15,12 @@ use Rattle.std.specs.Prelude.{Result, Ok, Err, IfOk}
 use Rattle.clvm_tree.specs.declared.Node.{Node}
 use Rattle.clvm_text.specs.declared.frames.Step.{Step}
 use Rattle.clvm_text.specs.declared.frames.Step.TheVariants.{Done, Goes}
-use Rattle.clvm_text.specs.declared.tokens.Piece.TheVariants as piece
 use Rattle.clvm_text.specs.declared.frames.Frame.TheVariants.{Whole, Inner, Element, Dot}
 use Rattle.clvm_text.specs.declared.frames.Mode.{Mode}
 use Rattle.clvm_text.specs.declared.frames.Mode.TheVariants as mode
-use Rattle.clvm_text.specs.declared.words.Leaf.{Leaf}
-use Rattle.clvm_text.specs.declared.words.Leaf.TheVariants as leaf
-use Rattle.clvm_text.specs.Pieces.{token_of_leaf, leaf_tree}
+use Rattle.clvm_text.specs.declared.frames.Leaf.{Leaf}
+use Rattle.clvm_text.specs.declared.frames.Leaf.TheVariants as leaf
+use Rattle.clvm_text.specs.Leaves.{token_of_leaf, leaf_tree}
 use Rattle.clvm_text.specs.Frames.{framed, resumed, at_token, told, IsBegun, AreBegun, IsFrameWithin, AreDotsWithin, element_of, Places, Takes, IsDotWithin, dot_of, first_dot, fault_behind, IsBroken, depth_in, list_frame, begun_in, IsForm, at_form}
 use Rattle.clvm_tree.specs.Nodes.{tree_at, Adds}
 use Rattle.clvm_text.proofs.FrameLaws.{resumed-push, resumed-grows, dotted, breaks}
@@ -63,20 +62,16 @@ takes_dot trees text frames (mode.List d false) depth place rest e = cc
 takes_dot trees text frames (mode.Close node p) depth place rest e = cc
 
 -- a token that is a form
-leaf_form : (l : Leaf) (depth : ℕ) (from rest : List ℕ) → form_at list_from depth (Took (token_of_leaf l) from rest) ≡ Parses (leaf_tree (token_of_leaf l)) rest
-leaf_form (leaf.Number n) depth from rest = refl
-leaf_form (leaf.Digits digits) depth from rest = refl
-leaf_form (leaf.Quoted bytes) depth from rest = refl
+leaf_form : (l : Leaf) (depth : ℕ) (from rest : List ℕ) → form_at list_from depth (Took (token_of_leaf l) from rest) ≡ Parses (leaf_tree l) rest
+leaf_form (leaf.Literal literal) depth from rest = refl
 leaf_form (leaf.Symbol name) depth from rest = refl
 
-leaf_list : (l : Leaf) (depth : ℕ) (begun : Bool) (from rest : List ℕ) → list_at list_from depth begun (Took (token_of_leaf l) from rest) ≡ with_rest list_from depth (Parses (leaf_tree (token_of_leaf l)) rest)
-leaf_list (leaf.Number n) depth begun from rest = refl
-leaf_list (leaf.Digits digits) depth begun from rest = refl
-leaf_list (leaf.Quoted bytes) depth begun from rest = refl
+leaf_list : (l : Leaf) (depth : ℕ) (begun : Bool) (from rest : List ℕ) → list_at list_from depth begun (Took (token_of_leaf l) from rest) ≡ with_rest list_from depth (Parses (leaf_tree l) rest)
+leaf_list (leaf.Literal literal) depth begun from rest = refl
 leaf_list (leaf.Symbol name) depth begun from rest = refl
 
 pub takes_leaf : (trees : List Tree) (text : List ℕ) (awaited : Mode) (l : Leaf) (depth : ℕ) (from rest : List ℕ) → depth_in awaited ≡ Some depth →
-    at_token trees text awaited (Took (token_of_leaf l) from rest) ≡ at_form awaited (leaf_tree (token_of_leaf l)) rest
+    at_token trees text awaited (Took (token_of_leaf l) from rest) ≡ at_form awaited (leaf_tree l) rest
 takes_leaf trees text (mode.Form d) l depth from rest e = leaf_form l d from rest
 takes_leaf trees text (mode.List d begun) l depth from rest e = leaf_list l d begun from rest
 takes_leaf trees text (mode.Close node place) l depth from rest e = cc
@@ -99,9 +94,7 @@ no_list trees text (mode.Close node place) from rest e = refl
 pub no_leaf : (trees : List Tree) (text : List ℕ) (awaited : Mode) (l : Leaf) (from rest : List ℕ) → depth_in awaited ≡ None → at_token trees text awaited (Took (token_of_leaf l) from rest) ≡ dotted text (dot_of awaited) (Breaks kind.Dot from)
 no_leaf trees text (mode.Form d) l from rest e = cc
 no_leaf trees text (mode.List d begun) l from rest e = cc
-no_leaf trees text (mode.Close node place) (leaf.Number n) from rest e = refl
-no_leaf trees text (mode.Close node place) (leaf.Digits digits) from rest e = refl
-no_leaf trees text (mode.Close node place) (leaf.Quoted bytes) from rest e = refl
+no_leaf trees text (mode.Close node place) (leaf.Literal literal) from rest e = refl
 no_leaf trees text (mode.Close node place) (leaf.Symbol name) from rest e = refl
 
 deep_within : (depth : ℕ) (from rest : List ℕ) → 1024 ≤ depth → opened list_from depth from rest ≡ Breaks kind.Deep from
@@ -163,17 +156,23 @@ placed trees text frames awaited d depth begun node rest is e =
     ∙ sym (resumed-push trees text frames (Element node) (list_at list_from depth true (token_of rest)))
 
 -- what a leaf's token leads to is what its form does
-leads : (old mid : List Tree) (frames : List Frame) (awaited : Mode) (l : Leaf) (depth node : ℕ) (from : List ℕ) → Adds old mid node (leaf_tree (token_of_leaf l)) → AreBegun old frames → depth_in awaited ≡ Some depth →
+leads : (old mid : List Tree) (frames : List Frame) (awaited : Mode) (l : Leaf) (depth node : ℕ) (from : List ℕ) → Adds old mid node (leaf_tree l) → AreBegun old frames → depth_in awaited ≡ Some depth →
     (text rest : List ℕ) → told old text frames awaited (Took (token_of_leaf l) from rest) ≡ resumed mid text frames (at_form awaited (tree_at mid node) rest)
 leads old mid frames awaited l depth node from adds begun e text rest =
     ap (resumed old text frames) (takes_leaf old text awaited l depth from rest e)
-    ∙ sym (resumed-grows old mid text frames (at_form awaited (leaf_tree (token_of_leaf l)) rest) adds.grows begun)
+    ∙ sym (resumed-grows old mid text frames (at_form awaited (leaf_tree l) rest) adds.grows begun)
     ∙ ap (λ t. resumed mid text frames (at_form awaited t rest)) (sym adds.stands)
 
-pub places_takes : (old mid new : List Tree) (before after : List Frame) (awaited : Mode) (l : Leaf) (depth node place : ℕ) (result : Result Step TextFault) → Adds old mid node (leaf_tree (token_of_leaf l)) → AreBegun old before → AreDotsWithin place before → depth_in awaited ≡ Some depth →
-    IfOk result (Places mid before awaited (tree_at mid node) new after) → IfOk result (Takes old before awaited place (piece.Form l) new after)
+pub places_takes : (old mid new : List Tree) (before after : List Frame) (awaited : Mode) (l : Leaf) (depth node place : ℕ) (result : Result Step TextFault) → Adds old mid node (leaf_tree l) → AreBegun old before → AreDotsWithin place before → depth_in awaited ≡ Some depth →
+    IfOk result (Places mid before awaited (tree_at mid node) new after) → IfOk result (Takes old before awaited place (token_of_leaf l) new after)
 places_takes old mid new before after awaited l depth node place (Ok (Done whole)) adds begun dots e p =
     (p.0, λ text rest. leads old mid before awaited l depth node (drop place text) adds begun e text rest ∙ p.1 text rest)
 places_takes old mid new before after awaited l depth node place (Ok (Goes next)) adds begun dots e p =
     (p.0, p.1 place dots, λ text rest. leads old mid before awaited l depth node (drop place text) adds begun e text rest ∙ p.2 text rest)
 places_takes old mid new before after awaited l depth node place (Err fault) adds begun dots e p = tt
+
+-- what a mark leads to in the trees that are there
+pub takes_mark : (before after : List Frame) (awaited : Mode) (place : ℕ) (token : Token) (result : Result Step TextFault) → IfOk result (λ step. (trees : List Tree) → AreBegun trees before → AreDotsWithin place before → Takes trees before awaited place token trees after step) →
+    (trees : List Tree) → AreBegun trees before → AreDotsWithin place before → IfOk result (Takes trees before awaited place token trees after)
+takes_mark before after awaited place token (Ok step) takes trees begun dots = takes trees begun dots
+takes_mark before after awaited place token (Err fault) takes trees begun dots = tt

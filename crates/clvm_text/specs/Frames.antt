@@ -3,7 +3,7 @@ use Rattle.std.specs.Prelude.{◌≡◌, ℕ, ◌+◌, ◌≤◌, List, [], ◌�
 use Rattle.clvm_spec.specs.declared.scan_kind.ScanKind.{ScanKind}
 use Rattle.clvm_spec.specs.declared.scan_kind.ScanKind.TheVariants as kind
 use Rattle.clvm_spec.specs.Tree.{Tree, Pair}
-use Rattle.clvm_spec.specs.Tokens.{Front, Took, token_of}
+use Rattle.clvm_spec.specs.Tokens.{Token, Front, Took, token_of}
 use Rattle.clvm_spec.specs.Tokens as tokens
 use Rattle.clvm_spec.specs.Text.{Parsed, Parses, Breaks, if_parsed, form_at, closed, behind_dot, with_rest, list_at}
 use Rattle.clvm_spec.specs.TextLaws.{list_from}
@@ -16,8 +16,6 @@ use Rattle.clvm_text.specs.declared.frames.Mode.{Mode}
 use Rattle.clvm_text.specs.declared.frames.Mode.TheVariants as mode
 use Rattle.clvm_text.specs.declared.frames.Step.{Step}
 use Rattle.clvm_text.specs.declared.frames.Step.TheVariants.{Done, Goes}
-use Rattle.clvm_text.specs.declared.tokens.Piece.{Piece}
-use Rattle.clvm_text.specs.Fronts.{front_of, IsThere}
 
 -- what is made of a form that is read in the frame
 abbrev pub framed : List Tree → List ℕ → Frame → Parsed → Parsed
@@ -170,12 +168,12 @@ Places old before awaited tree new after (Goes next) =
     × ((text rest : List ℕ) → resumed old text before (at_form awaited tree rest) ≡ told new text after next (token_of rest))
 
 -- After a token at this place, with the rest behind it.
-abbrev pub Takes : List Tree → List Frame → Mode → ℕ → Piece → List Tree → List Frame → Step → Type 0
-Takes old before awaited place piece new after (Done whole) =
-    IsKnown new whole.0 × ((text rest : List ℕ) → told old text before awaited (front_of (drop place text) piece rest) ≡ Parses (tree_at new whole.0) rest)
-Takes old before awaited place piece new after (Goes next) =
+abbrev pub Takes : List Tree → List Frame → Mode → ℕ → Token → List Tree → List Frame → Step → Type 0
+Takes old before awaited place token new after (Done whole) =
+    IsKnown new whole.0 × ((text rest : List ℕ) → told old text before awaited (Took token (drop place text) rest) ≡ Parses (tree_at new whole.0) rest)
+Takes old before awaited place token new after (Goes next) =
     GoesOn new after next × (AreDotsWithin place after × IsDotWithin place next)
-    × ((text rest : List ℕ) → told old text before awaited (front_of (drop place text) piece rest) ≡ told new text after next (token_of rest))
+    × ((text rest : List ℕ) → told old text before awaited (Took token (drop place text) rest) ≡ told new text after next (token_of rest))
 
-abbrev pub Stops : List Tree → List Frame → Mode → ℕ → Piece → TextFault → Type 0
-Stops old before awaited place piece fault = (text rest : List ℕ) → IsThere piece (drop place text) → IsBroken place text fault (told old text before awaited (front_of (drop place text) piece rest))
+abbrev pub Stops : List Tree → List Frame → Mode → ℕ → Token → TextFault → Type 0
+Stops old before awaited place token fault = (text rest : List ℕ) → IsBroken place text fault (told old text before awaited (Took token (drop place text) rest))

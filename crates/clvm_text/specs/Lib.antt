@@ -1,5 +1,4 @@
 pub mod Positions
-pub mod Pieces
-pub mod Fronts
+pub mod Leaves
 pub mod Frames
 pub mod Scans

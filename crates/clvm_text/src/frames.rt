@@ -1,21 +1,26 @@
 //! How a text is read, token by token, with the lists that are open.
 
 ghost use Rattle.std.specs.Prelude.{◌≡◌, ◌+◌, ◌<◌, ◌≤◌, ◌^◌, List, length, Some, option_map, MatchOption, IfOk, IfErr, OnOk, OnErr};
-ghost use Rattle.clvm_spec.specs.Tree.{Tree};
+ghost use Rattle.clvm_spec.specs.Tree.{Tree, Atom};
+ghost use Rattle.clvm_spec.specs.Tokens as tokens;
 ghost use Rattle.clvm_spec.specs.OperatorTable.{operator_named};
 ghost use Rattle.clvm_tree.specs.Nodes.{tree_at, IsKnown, Grows, Adds};
-ghost use Rattle.clvm_text.specs.Pieces.{token_of_leaf, leaf_tree, HasDigits};
-ghost use Rattle.clvm_text.specs.Fronts.{HasPieceDigits, IsTaken};
-ghost use Rattle.clvm_text.specs.declared.tokens.Piece.TheVariants as piece;
+ghost use Rattle.text_tokens.specs.Meanings.{literal_bytes, meant};
+ghost use Rattle.clvm_text.specs.Leaves.{token_of_leaf, leaf_tree};
 ghost use Rattle.clvm_text.specs.Frames.{AreBegun, IsMode, AreDotsWithin, IsDotWithin, elements, first_dot, dot_of, fault_behind, depth_in, list_frame, begun_in, IsForm, Ends, Settles, Places, Takes, Stops};
 
 use crate::TextFault;
-use crate::tokens::Piece;
-use crate::words::{Leaf, bytes_of};
 use case_table::code_of;
-use clvm_spec::ScanKind;
 use clvm_tree::{Node, OutOfMemory, Trees};
 use std::alloc::Global;
+use text_tokens::{Literal, ScanKind, Token};
+
+/// A token that is a form by itself.
+#[derive(Drop)]
+pub(crate) enum Leaf<'a> {
+    Literal(Literal<'a>),
+    Symbol(&'a [u8]),
+}
 
 /// What is begun: a list that is the form awaited, or one that is an element of a list at this depth; an element before
 /// what follows it in its list; a dot at its place.
@@ -77,7 +82,8 @@ fn fault_behind(dot: Option<u32>, kind: ScanKind, place: u32) -> TextFault
     }
 }
 
-fn fault(frames: &[Frame], mode: Mode, kind: ScanKind, place: u32) -> TextFault
+/// What is wrong at this place.
+pub(crate) fn fault(frames: &[Frame], mode: Mode, kind: ScanKind, place: u32) -> TextFault
     ensures { result ≡ fault_behind (first_dot frames.now (dot_of mode)) kind place }
 {
     fault_behind(first_dot(frames, dot_of(mode)), kind, place)
@@ -93,20 +99,29 @@ pub(crate) fn symbol_code(name: &[u8]) -> Option<u8>
     }
 }
 
-// The form of a token. A symbol that is no operator's name stands for nil.
+fn put_literal(alloc: Global, trees: &mut Trees, literal: Literal<'_>) -> Result<Node, OutOfMemory>
+    requires fits { length trees.old + 1 < 2 ^ 31 }
+    ensures ok { IfOk result (λ node. Adds trees.old trees.new node.0 (Atom (literal_bytes literal.entry))) }
+    ensures out_of_memory { OnErr result (trees.new ≡ trees.old) }
+{
+    match literal {
+        Literal::Number(number) => trees.put_number(alloc, number),
+        Literal::Hex(digits) => {
+            let bytes = digits.bytes(alloc)?;
+            trees.atom(alloc, bytes.as_slice())
+        }
+        Literal::Text(bytes) => trees.atom(alloc, bytes),
+    }
+}
+
+// A symbol that is no operator's name stands for nil.
 fn put(alloc: Global, trees: &mut Trees, leaf: Leaf<'_>) -> Result<Node, OutOfMemory>
     requires fits { length trees.old + 1 < 2 ^ 31 }
-    requires digits { HasDigits leaf }
-    ensures ok { IfOk result (λ node. Adds trees.old trees.new node.0 (leaf_tree (token_of_leaf leaf.entry))) }
+    ensures ok { IfOk result (λ node. Adds trees.old trees.new node.0 (leaf_tree leaf.entry)) }
     ensures out_of_memory { OnErr result (trees.new ≡ trees.old) }
 {
     match leaf {
-        Leaf::Number(number) => trees.put_number(alloc, number),
-        Leaf::Digits(digits) => {
-            let bytes = bytes_of(alloc, digits)?;
-            trees.atom(alloc, bytes.as_slice())
-        }
-        Leaf::Quoted(bytes) => trees.atom(alloc, bytes),
+        Leaf::Literal(literal) => put_literal(alloc, trees, literal),
         Leaf::Symbol(name) => match symbol_code(name) {
             Some(code) => trees.atom(alloc, &[code]),
             None => Ok(trees.nil()),
@@ -189,8 +204,8 @@ fn ended_in(trees: &Trees, mode: Mode) -> Option<Node>
 // Behind `(` stands what is in a list.
 fn open(frames: &mut Vec<Frame>, mode: Mode, place: u32) -> Result<Step, TextFault>
     ensures few { elements frames.new.items ≤ elements frames.old.items }
-    ensures takes { IfOk result (λ step. (trees : List Tree) → AreBegun trees frames.old.items → AreDotsWithin place frames.old.items → Takes trees frames.old.items mode place piece.Opening trees frames.new.items step) }
-    ensures stops { IfErr result (λ fault. (trees : List Tree) → AreDotsWithin place frames.old.items → IsDotWithin place mode → Stops trees frames.old.items mode place piece.Opening fault) }
+    ensures takes { IfOk result (λ step. (trees : List Tree) → AreBegun trees frames.old.items → AreDotsWithin place frames.old.items → Takes trees frames.old.items mode place tokens.Opening trees frames.new.items step) }
+    ensures stops { IfErr result (λ fault. (trees : List Tree) → AreDotsWithin place frames.old.items → IsDotWithin place mode → Stops trees frames.old.items mode place tokens.Opening fault) }
 {
     match depth_in(mode) {
         Some(depth) => {
@@ -207,8 +222,8 @@ fn open(frames: &mut Vec<Frame>, mode: Mode, place: u32) -> Result<Step, TextFau
 // Behind a dot stands the last form.
 fn point(frames: &mut Vec<Frame>, mode: Mode, place: u32) -> Result<Step, TextFault>
     ensures few { elements frames.new.items ≤ elements frames.old.items }
-    ensures takes { IfOk result (λ step. (trees : List Tree) → AreBegun trees frames.old.items → AreDotsWithin place frames.old.items → Takes trees frames.old.items mode place piece.Point trees frames.new.items step) }
-    ensures stops { IfErr result (λ fault. (trees : List Tree) → AreDotsWithin place frames.old.items → IsDotWithin place mode → Stops trees frames.old.items mode place piece.Point fault) }
+    ensures takes { IfOk result (λ step. (trees : List Tree) → AreBegun trees frames.old.items → AreDotsWithin place frames.old.items → Takes trees frames.old.items mode place tokens.Point trees frames.new.items step) }
+    ensures stops { IfErr result (λ fault. (trees : List Tree) → AreDotsWithin place frames.old.items → IsDotWithin place mode → Stops trees frames.old.items mode place tokens.Point fault) }
 {
     match begun_in(mode) {
         Some(depth) => {
@@ -234,8 +249,8 @@ fn close(
     requires fits { length trees.old + elements frames.old.items < 2 ^ 31 }
     ensures grows { Grows trees.old trees.new }
     ensures few { length trees.new + elements frames.new.items ≤ length trees.old + elements frames.old.items + 1 }
-    ensures takes { IfOk result (Takes trees.old frames.old.items mode place piece.Closing trees.new frames.new.items) }
-    ensures stops { IfErr result (Stops trees.old frames.old.items mode place piece.Closing) }
+    ensures takes { IfOk result (Takes trees.old frames.old.items mode place tokens.Closing trees.new frames.new.items) }
+    ensures stops { IfErr result (Stops trees.old frames.old.items mode place tokens.Closing) }
 {
     match ended_in(trees, mode) {
         Some(tree) => match settle(alloc, trees, frames, tree) {
@@ -285,7 +300,6 @@ fn take(
     leaf: Leaf<'_>,
     place: u32,
 ) -> Result<Step, TextFault>
-    requires digits { HasDigits leaf }
     requires begun { AreBegun trees.old frames.old.items }
     requires known { IsMode trees.old mode }
     requires dots { AreDotsWithin place frames.old.items }
@@ -293,8 +307,8 @@ fn take(
     requires fits { length trees.old + elements frames.old.items + 1 < 2 ^ 31 }
     ensures grows { Grows trees.old trees.new }
     ensures few { length trees.new + elements frames.new.items ≤ length trees.old + elements frames.old.items + 2 }
-    ensures takes { IfOk result (Takes trees.old frames.old.items mode place (piece.Form leaf.entry) trees.new frames.new.items) }
-    ensures stops { IfErr result (Stops trees.old frames.old.items mode place (piece.Form leaf.entry)) }
+    ensures takes { IfOk result (Takes trees.old frames.old.items mode place (token_of_leaf leaf.entry) trees.new frames.new.items) }
+    ensures stops { IfErr result (Stops trees.old frames.old.items mode place (token_of_leaf leaf.entry)) }
 {
     match depth_in(mode) {
         Some(depth) => {
@@ -311,10 +325,9 @@ pub(crate) fn advance(
     trees: &mut Trees,
     frames: &mut Vec<Frame>,
     mode: Mode,
-    piece: Piece<'_>,
+    token: Token<'_>,
     place: u32,
 ) -> Result<Step, TextFault>
-    requires digits { HasPieceDigits piece }
     requires begun { AreBegun trees.old frames.old.items }
     requires known { IsMode trees.old mode }
     requires dots { AreDotsWithin place frames.old.items }
@@ -322,16 +335,14 @@ pub(crate) fn advance(
     requires fits { length trees.old + elements frames.old.items + 1 < 2 ^ 31 }
     ensures grows { Grows trees.old trees.new }
     ensures few { length trees.new + elements frames.new.items ≤ length trees.old + elements frames.old.items + 2 }
-    ensures taken { OnOk result (IsTaken piece.entry) }
-    ensures takes { IfOk result (Takes trees.old frames.old.items mode place piece.entry trees.new frames.new.items) }
-    ensures stops { IfErr result (Stops trees.old frames.old.items mode place piece.entry) }
+    ensures takes { IfOk result (Takes trees.old frames.old.items mode place (meant token.entry) trees.new frames.new.items) }
+    ensures stops { IfErr result (Stops trees.old frames.old.items mode place (meant token.entry)) }
 {
-    match piece {
-        Piece::Opening => open(frames, mode, place),
-        Piece::Closing => close(alloc, trees, frames, mode, place),
-        Piece::Point => point(frames, mode, place),
-        Piece::Form(leaf) => take(alloc, trees, frames, mode, leaf, place),
-        Piece::Bad(kind) => Err(fault(frames.as_slice(), mode, kind, place)),
-        Piece::End => Err(fault(frames.as_slice(), mode, ScanKind::End, place)),
+    match token {
+        Token::Opening => open(frames, mode, place),
+        Token::Closing => close(alloc, trees, frames, mode, place),
+        Token::Point => point(frames, mode, place),
+        Token::Literal(literal) => take(alloc, trees, frames, mode, Leaf::Literal(literal), place),
+        Token::Symbol(name) => take(alloc, trees, frames, mode, Leaf::Symbol(name), place),
     }
 }

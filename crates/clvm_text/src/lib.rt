@@ -7,14 +7,12 @@ ghost use Rattle.clvm_text.specs.declared.TextFault.TheVariants as text_fault;
 mod frames;
 mod printer;
 mod scanner;
-mod tokens;
-mod words;
 
-pub use clvm_spec::ScanKind;
 use clvm_tree::OutOfMemory;
 pub use printer::print;
 pub use scanner::scan;
 use std::alloc::AllocFailed;
+pub use text_tokens::ScanKind;
 
 /// Why a text is no tree. Of all faults of a text the first from the front is told, with its place in bytes.
 #[derive(Clone, Copy, Debug, PartialEq, Eq)]

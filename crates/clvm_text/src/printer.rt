@@ -1,7 +1,8 @@
-ghost use Rattle.std.specs.Prelude.{◌≡◌, ◌+◌, ◌<◌, ◌≤◌, ◌++◌, length, Option, Some, None, IfOk, IfErr, OnOk, flat_map, string_bytes, string_len, vec_len, codes, if◌then◌else◌};
+ghost use Rattle.std.specs.Prelude.{◌≡◌, ◌+◌, ◌<◌, ◌≤◌, ◌++◌, length, Option, Some, None, IfOk, IfErr, OnOk, string_bytes, string_len, vec_len, codes, if◌then◌else◌};
+ghost use Rattle.hex.specs.Hex.{encode_lower};
 ghost use Rattle.clvm_spec.specs.Tree.{Tree, Atom};
 ghost use Rattle.clvm_spec.specs.Numbers.{number};
-ghost use Rattle.clvm_spec.specs.Text.{is_short_number, bytes_text, hex_digits, text_at, printed};
+ghost use Rattle.clvm_spec.specs.Text.{is_short_number, bytes_text, text_at, printed};
 ghost use Rattle.clvm_tree.specs.Nodes.{tree_at, IsKnown};
 ghost use Rattle.clvm_text.specs.Positions.{position_of, opening, first_of, texts, AreKnown};
 
@@ -41,9 +42,9 @@ fn push(text: &mut String, piece: &str, most: usize) -> Result<(), WriteFault>
 
 fn push_hex(alloc: Global, text: &mut String, bytes: &[u8], most: usize) -> Result<(), WriteFault>
     requires within { string_len text.old ≤ most }
-    ensures ok { OnOk result (string_bytes text.new ≡ string_bytes text.old ++ (codes "0x" ++ flat_map hex_digits bytes.now)) }
+    ensures ok { OnOk result (string_bytes text.new ≡ string_bytes text.old ++ (codes "0x" ++ encode_lower bytes.now)) }
     ensures within { OnOk result (string_len text.new ≤ most) }
-    ensures too_long { IfErr result (λ fault. fault ≡ WriteFault.TooLong → most < string_len text.old + length (codes "0x" ++ flat_map hex_digits bytes.now)) }
+    ensures too_long { IfErr result (λ fault. fault ≡ WriteFault.TooLong → most < string_len text.old + length (codes "0x" ++ encode_lower bytes.now)) }
 {
     let room = most - text.len();
     if room < 2 || (room - 2) / 2 < bytes.len() {

@@ -1,17 +1,28 @@
 //! Scanning: the one form of a text, or its first fault.
 
 ghost use Rattle.std.specs.Prelude.{◌≡◌, ◌+◌, ◌*◌, ◌<◌, ◌≤◌, ◌^◌, length, IfOk, IfErr, OnOk};
+ghost use Rattle.clvm_spec.specs.Tokens.{place_of};
 ghost use Rattle.clvm_spec.specs.Text.{form_of, unnamed_within, Scans, scanned, whole as whole_form};
 ghost use Rattle.clvm_tree.specs.Nodes.{tree_at, IsKnown, Grows};
 ghost use Rattle.clvm_text.specs.Frames.{IsBroken};
-ghost use Rattle.clvm_text.specs.Scans.{IsFormAt, IsWholeFault, IsTextFault, is_taken, is_unnamed, named_or};
+ghost use Rattle.text_tokens.specs.Meanings.{meant};
+ghost use Rattle.clvm_text.specs.Leaves.{is_unnamed};
+ghost use Rattle.clvm_text.specs.Scans.{IsFormAt, IsWholeFault, IsTextFault, named_or};
 
 use crate::TextFault;
-use crate::frames::{Mode, Step, advance, symbol_code};
-use crate::tokens::{Piece, skip_blanks, token};
-use crate::words::Leaf;
+use crate::frames::{Mode, Step, advance, fault, symbol_code};
 use clvm_tree::{Node, Trees};
 use std::alloc::Global;
+use text_tokens::{Front, ScanKind, Token, first_token};
+
+// The place of the end of a text.
+fn place_of(text: &[u8], end: &[u8]) -> u32
+    requires within { length end.now ≤ length text.now }
+    requires short { length text.now ≤ 2 ^ 26 }
+    ensures { result ≡ place_of text.now end.now }
+{
+    (text.len() - end.len()) as u32
+}
 
 // The first form of a text, and the text behind it.
 fn form<'a>(alloc: Global, trees: &mut Trees, text: &'a [u8]) -> Result<(Node, &'a [u8]), TextFault>
@@ -26,19 +37,22 @@ fn form<'a>(alloc: Global, trees: &mut Trees, text: &'a [u8]) -> Result<(Node, &
     let mut mode = Mode::Form(0);
     let mut rest = text;
     'tokens: loop {
-        let from = skip_blanks(rest);
-        let place = (text.len() - from.len()) as u32;
-        let (piece, after) = token(from);
-        match advance(alloc, trees, &mut frames, mode, piece, place) {
-            Ok(step) => match step {
-                Step::Done(tree) => return Ok((tree, after)),
-                Step::Goes(next) => {
-                    mode = next;
-                    rest = after;
-                }
-            },
+        let (token, from, after) = match first_token(rest) {
+            Front::Took { token, from, rest } => (token, from, rest),
+            Front::Unread { kind, from } => {
+                return Err(fault(frames.as_slice(), mode, kind, place_of(text, from)));
+            }
+            Front::AtEnd => {
+                return Err(fault(frames.as_slice(), mode, ScanKind::End, text.len() as u32));
+            }
+        };
+        let place = place_of(text, from);
+        match advance(alloc, trees, &mut frames, mode, token, place) {
+            Ok(Step::Done(tree)) => return Ok((tree, after)),
+            Ok(Step::Goes(next)) => mode = next,
             Err(fault) => return Err(fault),
         }
+        rest = after;
     }
 }
 
@@ -52,40 +66,24 @@ fn whole(alloc: Global, trees: &mut Trees, text: &[u8]) -> Result<Node, TextFaul
     ensures found { IfOk result (λ tree. whole_form text.now (form_of text.now) ≡ Scans (tree_at trees.new tree.0)) }
     ensures fault { IfErr result (IsWholeFault text.now) }
 {
-    match form(alloc, trees, text) {
-        Ok((tree, rest)) => {
-            let from = skip_blanks(rest);
-            let place = (text.len() - from.len()) as u32;
-            let (piece, _) = token(from);
-            match piece {
-                Piece::End => Ok(tree),
-                Piece::Bad(kind) => Err(TextFault::Read(kind, place)),
-                Piece::Opening => Err(TextFault::Left(place)),
-                Piece::Closing => Err(TextFault::Left(place)),
-                Piece::Point => Err(TextFault::Left(place)),
-                Piece::Form(_) => Err(TextFault::Left(place)),
-            }
-        }
-        Err(fault) => Err(fault),
-    }
-}
-
-fn is_taken(piece: &Piece<'_>) -> bool
-    ensures { result ≡ is_taken piece.now }
-{
-    match piece {
-        Piece::Bad(_) => false,
-        Piece::End => false,
-        _ => true,
+    let (tree, rest) = form(alloc, trees, text)?;
+    match first_token(rest) {
+        Front::AtEnd => Ok(tree),
+        Front::Unread { kind, from } => Err(TextFault::Read(kind, place_of(text, from))),
+        Front::Took {
+            token: _,
+            from,
+            rest: _,
+        } => Err(TextFault::Left(place_of(text, from))),
     }
 }
 
 // Whether a symbol is no operator's name.
-fn is_unnamed(piece: &Piece<'_>) -> bool
-    ensures { result ≡ is_unnamed piece.now }
+fn is_unnamed(token: &Token<'_>) -> bool
+    ensures { result ≡ is_unnamed (meant token.now) }
 {
-    match piece {
-        Piece::Form(Leaf::Symbol(name)) => symbol_code(name).is_none(),
+    match token {
+        Token::Symbol(name) => symbol_code(name).is_none(),
         _ => false,
     }
 }
@@ -95,19 +93,18 @@ fn unnamed(text: &[u8], end: usize) -> Option<u32>
     requires { length text.now ≤ 2 ^ 26 }
     ensures { result ≡ unnamed_within (length text.now) text.now end text.now }
 {
-    let mut rest = text;
-    'tokens: loop {
-        let from = skip_blanks(rest);
-        let place = text.len() - from.len();
-        let (piece, after) = token(from);
-        if !is_taken(&piece) || place >= end {
+    let mut unread = text;
+    'tokens: while let Front::Took { token, from, rest } = first_token(unread) {
+        let place = place_of(text, from);
+        if place as usize >= end {
             return None;
         }
-        if is_unnamed(&piece) {
-            return Some(place as u32);
+        if is_unnamed(&token) {
+            return Some(place);
         }
-        rest = after;
+        unread = rest;
     }
+    None
 }
 
 fn named_or(unnamed: Option<u32>, fault: TextFault) -> TextFault

@@ -1,24 +1,23 @@
-use Rattle.std.proofs.Common.{drop, ◌∙◌, ap, subst}
-use Rattle.clvm_spec.specs.declared.scan_kind.ScanKind.TheVariants as kind
-use Rattle.clvm_text.specs.Frames.{at_token, dot_of, first_dot, fault_behind}
-use Rattle.clvm_text.proofs.StepLaws.{stops_at, unread, at_end}
-use Rattle.clvm_text.specs.Fronts.{front_of, IsThere}
+use Rattle.std.proofs.Common.{sym, subst}
+use Rattle.std.specs.Prelude.{IfOk}
+use Rattle.clvm_spec.specs.Tokens as tokens
+use Rattle.text_tokens.specs.Meanings.{meant}
+use Rattle.clvm_text.specs.Frames.{Takes}
+use Rattle.clvm_text.proofs.StepLaws.{takes_mark}
 use Rattle.clvm_text.proofs.frames.advance.Goals as goal
 
-pub returns-in-Bad-clause-stops : goal.returns-in-Bad-clause-stops
-returns-in-Bad-clause-stops c = λ text rest there.
-    let m = c.args.mode in
-    let place = c.args.place in
+pub returns-in-Opening-clause-takes : goal.returns-in-Opening-clause-takes
+returns-in-Opening-clause-takes c =
     let trees = c.args.trees.now in
-    stops_at trees text c.args.frames.now.items m c.in-Bad.kind place c.fault.result (at_token trees text m (front_of (drop place text) c.args.piece rest)) c.requires.dots c.requires.dot
-    (c.fault.ensures ∙ ap (λ f. fault_behind (first_dot f (dot_of m)) c.in-Bad.kind place) c.as_slice.ensures.value)
-    (ap (λ p. at_token trees text m (front_of (drop place text) p rest)) c.in-Bad.is ∙ unread trees text m c.in-Bad.kind (drop place text))
+    let before = c.args.frames.now.items in
+    let after = c.open.new.frames.items in
+    subst (λ t. IfOk c.open.result (Takes trees before c.args.mode c.args.place (meant t) trees after)) (sym c.in-Opening.is)
+    (takes_mark before after c.args.mode c.args.place tokens.Opening c.open.result c.open.ensures.takes trees c.requires.begun c.requires.dots)
 
-pub returns-in-End-clause-stops : goal.returns-in-End-clause-stops
-returns-in-End-clause-stops c = λ text rest there.
-    let m = c.args.mode in
-    let place = c.args.place in
+pub returns-in-Point-clause-takes : goal.returns-in-Point-clause-takes
+returns-in-Point-clause-takes c =
     let trees = c.args.trees.now in
-    stops_at trees text c.args.frames.now.items m kind.End place c.fault-in-End.result (at_token trees text m (front_of (drop place text) c.args.piece rest)) c.requires.dots c.requires.dot
-    (c.fault-in-End.ensures ∙ ap (λ f. fault_behind (first_dot f (dot_of m)) kind.End place) c.as_slice-in-End.ensures.value)
-    (ap (λ p. at_token trees text m (front_of (drop place text) p rest)) c.in-End.is ∙ at_end trees text m (drop place text) (subst (λ p. IsThere p (drop place text)) c.in-End.is there))
+    let before = c.args.frames.now.items in
+    let after = c.point.new.frames.items in
+    subst (λ t. IfOk c.point.result (Takes trees before c.args.mode c.args.place (meant t) trees after)) (sym c.in-Point.is)
+    (takes_mark before after c.args.mode c.args.place tokens.Point c.point.result c.point.ensures.takes trees c.requires.begun c.requires.dots)

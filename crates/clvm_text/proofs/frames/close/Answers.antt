@@ -7,7 +7,7 @@ use Rattle.clvm_text.proofs.StepLaws.{stops_at, no_end}
 use Rattle.clvm_text.proofs.frames.close.Goals as goal
 
 pub returns-in-None-clause-stops : goal.returns-in-None-clause-stops
-returns-in-None-clause-stops c = λ text rest there.
+returns-in-None-clause-stops c = λ text rest.
     let m = c.args.mode in
     let place = c.args.place in
     let trees = c.args.trees.now in

@@ -9,7 +9,7 @@ use Rattle.clvm_text.proofs.StepLaws.{opens_list, stops_at, no_list, too_deep, l
 use Rattle.clvm_text.proofs.frames.open.Goals as goal
 
 pub returns-then-depth-ge1024-clause-stops : goal.returns-then-depth-ge1024-clause-stops
-returns-then-depth-ge1024-clause-stops c = λ trees dots dot text rest there.
+returns-then-depth-ge1024-clause-stops c = λ trees dots dot text rest.
     let m = c.args.mode in
     let place = c.args.place in
     stops_at trees text c.args.frames.now.items m kind.Deep place c.fault.result (at_token trees text m (Took tokens.Opening (drop place text) rest)) dots dot
@@ -37,7 +37,7 @@ returns-in_ok-push-in-Some-clause-takes c = λ trees begun dots.
     )
 
 pub returns-in-None-clause-stops : goal.returns-in-None-clause-stops
-returns-in-None-clause-stops c = λ trees dots dot text rest there.
+returns-in-None-clause-stops c = λ trees dots dot text rest.
     let m = c.args.mode in
     let place = c.args.place in
     stops_at trees text c.args.frames.now.items m kind.Dot place c.fault-in-None.result (at_token trees text m (Took tokens.Opening (drop place text) rest)) dots dot

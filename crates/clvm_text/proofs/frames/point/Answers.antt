@@ -29,7 +29,7 @@ returns-in_ok-push-in-Some-clause-takes c = λ trees begun dots.
     )
 
 pub returns-in-None-clause-stops : goal.returns-in-None-clause-stops
-returns-in-None-clause-stops c = λ trees dots dot text rest there.
+returns-in-None-clause-stops c = λ trees dots dot text rest.
     let m = c.args.mode in
     let place = c.args.place in
     stops_at trees text c.args.frames.now.items m kind.Dot place c.fault.result (at_token trees text m (Took tokens.Point (drop place text) rest)) dots dot

@@ -1,7 +1,7 @@
 use Rattle.std.proofs.Common.{drop, sym, ◌∙◌, ap}
 use Rattle.clvm_spec.specs.declared.scan_kind.ScanKind.TheVariants as kind
 use Rattle.clvm_spec.specs.Tokens.{Took}
-use Rattle.clvm_text.specs.Pieces.{token_of_leaf}
+use Rattle.clvm_text.specs.Leaves.{token_of_leaf}
 use Rattle.clvm_text.specs.Frames.{at_token, dot_of, first_dot, fault_behind}
 use Rattle.clvm_text.proofs.FrameLaws.{AreBegun-grows}
 use Rattle.clvm_text.proofs.StepLaws.{stops_at, no_leaf, places_takes}
@@ -16,7 +16,7 @@ returns-in_ok-tree-in-Some-clause-takes c =
     c.in_ok-tree-in-Some.ensures.ok c.requires.begun c.requires.dots (sym c.depth_in.ensures ∙ c.in-Some.is) c.place_form.ensures.places
 
 pub returns-in-None-clause-stops : goal.returns-in-None-clause-stops
-returns-in-None-clause-stops c = λ text rest there.
+returns-in-None-clause-stops c = λ text rest.
     let m = c.args.mode in
     let place = c.args.place in
     let trees = c.args.trees.now in

@@ -1,11 +1,14 @@
-use Rattle.std.proofs.Common.{◌-◌, ◌≤◌, length, refl, sym, ◌∙◌, ap, subst, arith}
-use Rattle.clvm_spec.specs.Tokens.{token_of}
+use Rattle.std.proofs.Common.{◌-◌, ◌≤◌, length, sym, ◌∙◌, ap, subst, arith}
+use Rattle.clvm_spec.specs.declared.scan_kind.ScanKind.TheVariants as kind
+use Rattle.clvm_spec.specs.Tokens.{token_of, place_of}
 use Rattle.clvm_spec.proofs.ScanLaws.{form_is}
 use Rattle.clvm_tree.proofs.NodeLaws.{grows_same, grows_on}
+use Rattle.text_tokens.proofs.EndLaws.{IsEnd-itself, IsEnd-within}
+use Rattle.text_tokens.specs.Meanings.{meant}
 use Rattle.clvm_text.specs.declared.frames.Mode.TheVariants as mode
-use Rattle.clvm_text.specs.Frames.{told, AreBegun, AreDotsWithin, elements, Takes}
+use Rattle.clvm_text.specs.Frames.{told, AreBegun, AreDotsWithin, elements, Takes, dot_of, first_dot, fault_behind}
 use Rattle.clvm_text.proofs.FrameLaws.{dots_later, dot_later}
-use Rattle.clvm_text.proofs.ScanningLaws.{placed, behind, within_text, done_form, goes_form, stops_form}
+use Rattle.clvm_text.proofs.ScanningLaws.{done_form, goes_form, unread_form, ended_form}
 use Rattle.clvm_text.proofs.scanner.form.Goals as goal
 
 pub tokens-init : goal.tokens-init
@@ -18,86 +21,85 @@ tokens-init c =
       count = omega (arith, ap elements items);
       begun = subst (AreBegun trees) (sym items) tt;
       known = tt;
-      suffix = (0, refl);
+      end = IsEnd-itself text;
       dots = subst (AreDotsWithin (length text - length text)) (sym items) tt;
       dot = tt;
       same = form_is (length text) text (omega arith) ∙ ap (λ f. told trees text f (mode.Form 0) (token_of text)) (sym items);
     }
 
-pub overflow_sub-place : goal.overflow_sub-place
-overflow_sub-place c = within_text c.args.text.now c.tokens.rest.now c.skip_blanks-from.result.now c.tokens.invariant.suffix.0 c.tokens.invariant.suffix.1 c.skip_blanks-from.ensures
+pub returns-in-Unread-clause-broken : goal.returns-in-Unread-clause-broken
+returns-in-Unread-clause-broken c =
+    let text = c.args.text.now in
+    let rest = c.tokens.rest.now in
+    let from = c.in-Unread.from.now in
+    let frames = c.tokens.frames.items in
+    let awaited = c.tokens.mode in
+    let what = c.in-Unread.kind in
+    let ends = c.in-Unread.ensures.ends in
+    let later : length text - length rest ≤ place_of text from = omega (arith, ends.within) in
+    unread_form c.tokens.trees text rest from frames awaited what c.fault.result (IsEnd-within from rest text ends c.tokens.invariant.end) (sym c.in-Unread.ensures.front) c.tokens.invariant.same
+    (dots_later (length text - length rest) (place_of text from) frames later c.tokens.invariant.dots)
+    (dot_later (length text - length rest) (place_of text from) awaited later c.tokens.invariant.dot)
+    (c.fault.ensures ∙ ap (λ f. fault_behind (first_dot f (dot_of awaited)) what c.place_of.result) c.as_slice.ensures.value ∙ ap (fault_behind (first_dot frames (dot_of awaited)) what) c.place_of.ensures)
+
+pub returns-in-AtEnd-clause-broken : goal.returns-in-AtEnd-clause-broken
+returns-in-AtEnd-clause-broken c =
+    let text = c.args.text.now in
+    let rest = c.tokens.rest.now in
+    let frames = c.tokens.frames.items in
+    let awaited = c.tokens.mode in
+    let later : length text - length rest ≤ length text = omega arith in
+    ended_form c.tokens.trees text rest frames awaited c.fault-in-AtEnd.result (sym c.in-AtEnd.ensures.front) c.tokens.invariant.same
+    (dots_later (length text - length rest) (length text) frames later c.tokens.invariant.dots)
+    (dot_later (length text - length rest) (length text) awaited later c.tokens.invariant.dot)
+    (c.fault-in-AtEnd.ensures ∙ ap (λ f. fault_behind (first_dot f (dot_of awaited)) kind.End (length text)) c.as_slice-in-AtEnd.ensures.value)
 
 pub advance-requires-clause-dots : goal.advance-requires-clause-dots
 advance-requires-clause-dots c =
     let text = c.args.text.now in
-    let from = c.skip_blanks-from.result.now in
-    let at = placed text c.tokens.rest.now from c.token.result.0 c.token.result.1.now c.tokens.invariant.suffix.0 c.tokens.invariant.suffix.1 c.skip_blanks-from.ensures c.token.ensures.front in
-    dots_later (length text - length c.tokens.rest.now) (length text - length from) c.tokens.frames.items (omega (arith, at.within)) c.tokens.invariant.dots
+    let rest = c.tokens.rest.now in
+    let from = c.in-Took.from.now in
+    let frames = c.tokens.frames.items in
+    let later : length text - length rest ≤ place_of text from = omega (arith, c.in-Took.ensures.ends.0.within) in
+    subst (λ n. AreDotsWithin n frames) (sym c.place_of-place.ensures) (dots_later (length text - length rest) (place_of text from) frames later c.tokens.invariant.dots)
 
-pub advance-requires-clause-dot : goal.advance-requires-clause-dot
-advance-requires-clause-dot c =
-    let text = c.args.text.now in
-    let from = c.skip_blanks-from.result.now in
-    let at = placed text c.tokens.rest.now from c.token.result.0 c.token.result.1.now c.tokens.invariant.suffix.0 c.tokens.invariant.suffix.1 c.skip_blanks-from.ensures c.token.ensures.front in
-    dot_later (length text - length c.tokens.rest.now) (length text - length from) c.tokens.mode (omega (arith, at.within)) c.tokens.invariant.dot
-
-pub returns-in-Done-clause-found : goal.returns-in-Done-clause-found
-returns-in-Done-clause-found c =
+pub returns-in-Ok-Done-clause-found : goal.returns-in-Ok-Done-clause-found
+returns-in-Ok-Done-clause-found c =
     let text = c.args.text.now in
     let rest = c.tokens.rest.now in
-    let from = c.skip_blanks-from.result.now in
-    let piece = c.token.result.0 in
-    let after = c.token.result.1.now in
-    let k = c.tokens.invariant.suffix.0 in
-    let suffix = c.tokens.invariant.suffix.1 in
-    let at = placed text rest from piece after k suffix c.skip_blanks-from.ensures c.token.ensures.front in
-    let takes = subst (Takes c.tokens.trees c.tokens.frames.items c.tokens.mode (length text - length from) piece c.advance.new.trees c.advance.new.frames.items) c.in-Done.is c.in-Ok.ensures.takes in
-    done_form c.tokens.trees c.advance.new.trees text rest from after c.tokens.frames.items c.advance.new.frames.items c.tokens.mode piece c.in-Done.tree k suffix at c.in-Ok.ensures.taken c.tokens.invariant.same takes
-
-pub tokens-smaller : goal.tokens-smaller
-tokens-smaller c =
-    let text = c.args.text.now in
-    let rest = c.tokens.rest.now in
-    let from = c.skip_blanks-from.result.now in
-    let piece = c.token.result.0 in
-    let after = c.token.result.1.now in
-    let k = c.tokens.invariant.suffix.0 in
-    let suffix = c.tokens.invariant.suffix.1 in
-    let at = placed text rest from piece after k suffix c.skip_blanks-from.ensures c.token.ensures.front in
-    (behind text rest from piece after k suffix at.token_is c.in-Ok.ensures.taken).less
+    let from = c.in-Took.from.now in
+    let after = c.in-Took.rest.now in
+    let before = c.tokens.frames.items in
+    let later = c.advance.new.frames.items in
+    let token = meant c.in-Took.token in
+    let ends = c.in-Took.ensures.ends in
+    let within = c.tokens.invariant.end in
+    done_form c.tokens.trees c.advance.new.trees text rest from after before later c.tokens.mode token c.in-Ok-Done.tree (IsEnd-within from rest text ends.0 within) (IsEnd-within after rest text ends.1 within)
+    (sym c.in-Took.ensures.front) c.tokens.invariant.same
+    (subst (Takes c.tokens.trees before c.tokens.mode (place_of text from) token c.advance.new.trees later) c.in-Ok-Done.field-0-is (subst (λ n. Takes c.tokens.trees before c.tokens.mode n token c.advance.new.trees later c.in-Ok-Done.field-0) c.place_of-place.ensures c.in-Ok-Done.ensures.takes))
 
 pub tokens-preserved : goal.tokens-preserved
 tokens-preserved c =
     let text = c.args.text.now in
     let rest = c.tokens.rest.now in
-    let from = c.skip_blanks-from.result.now in
-    let piece = c.token.result.0 in
-    let after = c.token.result.1.now in
-    let k = c.tokens.invariant.suffix.0 in
-    let suffix = c.tokens.invariant.suffix.1 in
-    let at = placed text rest from piece after k suffix c.skip_blanks-from.ensures c.token.ensures.front in
-    let takes = subst (Takes c.tokens.trees c.tokens.frames.items c.tokens.mode (length text - length from) piece c.advance.new.trees c.advance.new.frames.items) c.in-Goes.is c.in-Ok.ensures.takes in
-    let next = behind text rest from piece after k suffix at.token_is c.in-Ok.ensures.taken in
-    let later : length text - length from ≤ length text - length after = omega (arith, next.less_from, ap length c.skip_blanks-from.ensures) in
+    let from = c.in-Took.from.now in
+    let after = c.in-Took.rest.now in
+    let before = c.tokens.frames.items in
+    let later = c.advance.new.frames.items in
+    let next = c.in-Ok-Goes.next in
+    let token = meant c.in-Took.token in
+    let ends = c.in-Took.ensures.ends in
+    let end = IsEnd-within from rest text ends.0 c.tokens.invariant.end in
+    let behind = IsEnd-within after rest text ends.1 c.tokens.invariant.end in
+    let takes = subst (Takes c.tokens.trees before c.tokens.mode (place_of text from) token c.advance.new.trees later) c.in-Ok-Goes.field-0-is (subst (λ n. Takes c.tokens.trees before c.tokens.mode n token c.advance.new.trees later c.in-Ok-Goes.field-0) c.place_of-place.ensures c.in-Ok-Goes.ensures.takes) in
+    let further : place_of text from ≤ length text - length after = omega (arith, ends.2) in
     record {
-      grows = grows_on c.args.trees.now c.tokens.trees c.advance.new.trees c.tokens.invariant.grows c.in-Ok.ensures.grows;
-      count = omega (arith, c.in-Ok.ensures.few, next.less, c.tokens.invariant.count);
+      grows = grows_on c.args.trees.now c.tokens.trees c.advance.new.trees c.tokens.invariant.grows c.in-Ok-Goes.ensures.grows;
+      count = omega (arith, c.in-Ok-Goes.ensures.few, ends.0.within, ends.2, c.tokens.invariant.count);
       begun = takes.0.begun;
       known = takes.0.known;
-      suffix = next.suffix;
-      dots = dots_later (length text - length from) (length text - length after) c.advance.new.frames.items later takes.1.0;
-      dot = dot_later (length text - length from) (length text - length after) c.in-Goes.next later takes.1.1;
-      same = goes_form c.tokens.trees c.advance.new.trees text rest from after c.tokens.frames.items c.advance.new.frames.items c.tokens.mode c.in-Goes.next piece at c.tokens.invariant.same takes;
+      end = behind;
+      dots = dots_later (place_of text from) (length text - length after) later further takes.1.0;
+      dot = dot_later (place_of text from) (length text - length after) next further takes.1.1;
+      same = goes_form c.tokens.trees c.advance.new.trees text rest from after before later c.tokens.mode next token end (sym c.in-Took.ensures.front) c.tokens.invariant.same takes;
     }
-
-pub returns-in-Err-clause-broken : goal.returns-in-Err-clause-broken
-returns-in-Err-clause-broken c =
-    let text = c.args.text.now in
-    let rest = c.tokens.rest.now in
-    let from = c.skip_blanks-from.result.now in
-    let piece = c.token.result.0 in
-    let after = c.token.result.1.now in
-    let k = c.tokens.invariant.suffix.0 in
-    let suffix = c.tokens.invariant.suffix.1 in
-    let at = placed text rest from piece after k suffix c.skip_blanks-from.ensures c.token.ensures.front in
-    stops_form c.tokens.trees text rest from after c.tokens.frames.items c.tokens.mode piece c.in-Err.fault at c.tokens.invariant.same c.in-Err.ensures.stops

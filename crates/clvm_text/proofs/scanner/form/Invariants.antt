@@ -1,8 +1,9 @@
-use Rattle.std.proofs.Common.{◌≡◌, ℕ, ◌+◌, ◌-◌, ◌*◌, ◌≤◌, length, drop}
+use Rattle.std.proofs.Common.{◌≡◌, ◌+◌, ◌-◌, ◌*◌, ◌≤◌, length}
 use Rattle.clvm_spec.specs.Tokens.{token_of}
 use Rattle.clvm_spec.specs.Text.{form_of}
 use Rattle.clvm_tree.specs.Nodes.{Grows}
 use Rattle.clvm_text.specs.Frames.{told, AreBegun, IsMode, AreDotsWithin, IsDotWithin, elements}
+use Rattle.text_tokens.specs.Ends.{IsEnd}
 use Rattle.clvm_text.proofs.scanner.form.Given as goal
 
 abbrev pub invariant-tokens : goal.invariant-tokens
@@ -11,7 +12,7 @@ invariant-tokens l = record {
   count : length l.trees + elements l.frames.items + 2 * length l.rest ≤ length l.fn.trees + 2 * length l.text;
   begun : AreBegun l.trees l.frames.items;
   known : IsMode l.trees l.mode;
-  suffix : (k : ℕ) × (l.rest ≡ drop k l.text);
+  end : IsEnd l.rest l.text;
   dots : AreDotsWithin (length l.text - length l.rest) l.frames.items;
   dot : IsDotWithin (length l.text - length l.rest) l.mode;
   same : form_of l.text ≡ told l.trees l.text l.frames.items l.mode (token_of l.rest);
