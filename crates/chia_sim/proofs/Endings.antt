@@ -8,7 +8,7 @@ use Rattle.tool_words.specs.declared.said.Command.TheVariants as command
 use Rattle.chia_sim.specs.Outside.{Reading, Writing, IsInput, IsTooLong, Writes, WritesLine, FailsToWrite, most_bytes}
 use Rattle.chia_sim.specs.Outputs.{HasOutput, HasFault, IsInForm}
 use Rattle.chia_sim.specs.Headline.{IsOutput, IsFault, Ends, Finished, Refused, NoCommand, ReadFault, WriteFault, NoMemory, TooLong}
-use Rattle.chia_sim.specs.Causes.{IsRun, IsComplete, NamesFault, NamesTooLong, HasCauses}
+use Rattle.chia_sim.specs.Causes.{IsRun, EndsWith, IsComplete, NamesFault, NamesTooLong}
 use Rattle.chia_sim.specs.Stops.{HasCause, IsAnswer, IsAnswerTo, Finishes, words_of, status_of}
 use Rattle.chia_sim.specs.declared.answer.Answer.{Answer}
 use Rattle.chia_sim.specs.declared.answer.Answer.TheVariants as answer
@@ -46,11 +46,13 @@ same-command said it other is be = cc
 form-or-fault : (it : Command) (input words : List ℕ) → IsInForm it input → HasFault it input words → ⊥
 form-or-fault command.Session input words form fault = let none = fault.0 in absurd (search rules)
 form-or-fault command.Hash input words form fault = absurd (search rules)
+form-or-fault (command.Eval cost as_text env) input words form fault = absurd (search rules)
 
 -- an input with an output has no fault
 output-or-fault : (it : Command) (input output words : List ℕ) → HasOutput it input output → HasFault it input words → ⊥
 output-or-fault command.Session input output words out fault = let one = out.of_input in let none = fault.0 in absurd (search rules)
 output-or-fault command.Hash input output words out fault = absurd (search rules)
+output-or-fault (command.Eval cost as_text env) input output words out fault = absurd (search rules)
 
 -- the same of what was read
 fault-of : (said : Option Command) (reading : Reading) (writing : Writing) (it other : Command) (input words : List ℕ)
@@ -68,7 +70,7 @@ output-of said reading writing it other input output run is out =
 some-none : {A : Type 0} (found : Option A) {x : A} → found ≡ Some x → found ≡ None → ⊥
 some-none found is none = absurd (search rules)
 
-ends-complete : (said : Option Command) (reading : Reading) (writing : Writing) (status : ℕ) → Ends said reading writing status → IsComplete said reading writing status
+pub ends-complete : (said : Option Command) (reading : Reading) (writing : Writing) (status : ℕ) → Ends said reading writing status → IsComplete said reading writing status
 ends-complete said reading writing status (Finished other output so out writes is) it input run within form = inl is
 ends-complete said reading writing status (Refused other words so fault line is) it input run within form =
     absurd (form-or-fault it input words form (fault-of said reading writing it other input words run so fault))
@@ -79,7 +81,7 @@ ends-complete said reading writing status (NoMemory line is) it input run within
 ends-complete said reading writing status (TooLong other so long line is) it input run within form =
     absurd (omega (arith, within, long-is reading input run.tells long))
 
-ends-fault : (said : Option Command) (reading : Reading) (writing : Writing) (status : ℕ) → Ends said reading writing status → NamesFault said reading writing status
+pub ends-fault : (said : Option Command) (reading : Reading) (writing : Writing) (status : ℕ) → Ends said reading writing status → NamesFault said reading writing status
 ends-fault said reading writing status (Finished other output so out writes is) it input words run within fault =
     absurd (output-or-fault it input output words (output-of said reading writing it other input output run so out) fault)
 ends-fault said reading writing status (Refused other line_words so has line is) it input words run within fault = inl is
@@ -90,7 +92,7 @@ ends-fault said reading writing status (NoMemory line is) it input words run wit
 ends-fault said reading writing status (TooLong other so long line is) it input words run within fault =
     absurd (omega (arith, within, long-is reading input run.tells long))
 
-ends-too_long : (said : Option Command) (reading : Reading) (writing : Writing) (status : ℕ) → Ends said reading writing status → NamesTooLong said reading writing status
+pub ends-too_long : (said : Option Command) (reading : Reading) (writing : Writing) (status : ℕ) → Ends said reading writing status → NamesTooLong said reading writing status
 ends-too_long said reading writing status (Finished other output so out writes is) it input run long = absurd (not-long reading input out.0 run.tells out.1 long)
 ends-too_long said reading writing status (Refused other words so fault line is) it input run long = absurd (not-long reading input fault.0 run.tells fault.1 long)
 ends-too_long said reading writing status (NoCommand none same line is) it input run long = absurd (some-none said run.words_are none)
@@ -99,7 +101,7 @@ ends-too_long said reading writing status (WriteFault other output so out fails 
 ends-too_long said reading writing status (NoMemory line is) it input run long = inr is
 ends-too_long said reading writing status (TooLong other so has line is) it input run long = inl is
 
-ends-no_command : (said : Option Command) (reading : Reading) (writing : Writing) (status : ℕ) → Ends said reading writing status → said ≡ None → (status ≡ 2) ⊎ (status ≡ 5)
+pub ends-no_command : (said : Option Command) (reading : Reading) (writing : Writing) (status : ℕ) → Ends said reading writing status → said ≡ None → EndsWith 2 status
 ends-no_command said reading writing status (Finished other output so out writes is) none = absurd (some-none said so none)
 ends-no_command said reading writing status (Refused other words so fault line is) none = absurd (some-none said so none)
 ends-no_command said reading writing status (NoCommand also same line is) none = inl is
@@ -108,7 +110,7 @@ ends-no_command said reading writing status (WriteFault other output so out fail
 ends-no_command said reading writing status (NoMemory line is) none = inr is
 ends-no_command said reading writing status (TooLong other so long line is) none = absurd (some-none said so none)
 
-ends-read_fault : (said : Option Command) (reading : Reading) (writing : Writing) (status : ℕ) → Ends said reading writing status → status ≡ 3 → Rose reading.faults reading.faults_after
+pub ends-read_fault : (said : Option Command) (reading : Reading) (writing : Writing) (status : ℕ) → Ends said reading writing status → status ≡ 3 → Rose reading.faults reading.faults_after
 ends-read_fault said reading writing status (Finished other output so out writes is) three = absurd (omega (arith, is, three))
 ends-read_fault said reading writing status (Refused other words so fault line is) three = absurd (omega (arith, is, three))
 ends-read_fault said reading writing status (NoCommand none same line is) three = absurd (omega (arith, is, three))
@@ -117,7 +119,7 @@ ends-read_fault said reading writing status (WriteFault other output so out fail
 ends-read_fault said reading writing status (NoMemory line is) three = absurd (omega (arith, is, three))
 ends-read_fault said reading writing status (TooLong other so long line is) three = absurd (omega (arith, is, three))
 
-ends-write_fault : (said : Option Command) (reading : Reading) (writing : Writing) (status : ℕ) → Ends said reading writing status → status ≡ 4 → Rose writing.faults writing.faults_after
+pub ends-write_fault : (said : Option Command) (reading : Reading) (writing : Writing) (status : ℕ) → Ends said reading writing status → status ≡ 4 → Rose writing.faults writing.faults_after
 ends-write_fault said reading writing status (Finished other output so out writes is) four = absurd (omega (arith, is, four))
 ends-write_fault said reading writing status (Refused other words so fault line is) four = absurd (omega (arith, is, four))
 ends-write_fault said reading writing status (NoCommand none same line is) four = absurd (omega (arith, is, four))
@@ -125,16 +127,6 @@ ends-write_fault said reading writing status (ReadFault other so fails line is) 
 ends-write_fault said reading writing status (WriteFault other output so out fails is) four = fails.rose
 ends-write_fault said reading writing status (NoMemory line is) four = absurd (omega (arith, is, four))
 ends-write_fault said reading writing status (TooLong other so long line is) four = absurd (omega (arith, is, four))
-
-pub ends-causes : (said : Option Command) (reading : Reading) (writing : Writing) (status : ℕ) → Ends said reading writing status → HasCauses said reading writing status
-ends-causes said reading writing status ends = record {
-  no_command = ends-no_command said reading writing status ends;
-  complete = ends-complete said reading writing status ends;
-  input_fault = ends-fault said reading writing status ends;
-  too_long = ends-too_long said reading writing status ends;
-  read_fault = ends-read_fault said reading writing status ends;
-  write_fault = ends-write_fault said reading writing status ends;
-}
 
 -- What is answered to an input is answered to what was read.
 pub answer-read : (it : Command) (reading : Reading) (input : List ℕ) (says : Answer) → IsInput reading input → IsAnswer it input says → IsAnswerTo it reading says

@@ -13,26 +13,21 @@ pub record IsRun (said : Option Command) (it : Command) (reading : Reading) (wri
   pub reads : ¬ Rose reading.faults reading.faults_after
   pub writes : ¬ Rose writing.faults writing.faults_after
 
+-- The run ends with this status, or there is no memory.
+abbrev pub EndsWith : ℕ → ℕ → Type 0
+EndsWith expected status = (status ≡ expected) ⊎ (status ≡ 5)
+
 -- A command is done on an input of its form.
 abbrev pub IsComplete : Option Command → Reading → Writing → ℕ → Type 0
 IsComplete said reading writing status =
-    (it : Command) (input : List ℕ) → IsRun said it reading writing input → length input ≤ most_bytes → IsInForm it input → (status ≡ 0) ⊎ (status ≡ 5)
+    (it : Command) (input : List ℕ) → IsRun said it reading writing input → length input ≤ most_bytes → IsInForm it input → EndsWith 0 status
 
 -- An input that isn't too long and not of the command's form is named so.
 abbrev pub NamesFault : Option Command → Reading → Writing → ℕ → Type 0
 NamesFault said reading writing status =
-    (it : Command) (input words : List ℕ) → IsRun said it reading writing input → length input ≤ most_bytes → HasFault it input words → (status ≡ 1) ⊎ (status ≡ 5)
+    (it : Command) (input words : List ℕ) → IsRun said it reading writing input → length input ≤ most_bytes → HasFault it input words → EndsWith 1 status
 
 -- An input that is too long is named so.
 abbrev pub NamesTooLong : Option Command → Reading → Writing → ℕ → Type 0
 NamesTooLong said reading writing status =
-    (it : Command) (input : List ℕ) → IsRun said it reading writing input → most_bytes < length input → (status ≡ 7) ⊎ (status ≡ 5)
-
--- Each end has its cause.
-pub record HasCauses (said : Option Command) (reading : Reading) (writing : Writing) (status : ℕ) : Type 0 where
-  pub no_command : said ≡ None → (status ≡ 2) ⊎ (status ≡ 5)
-  pub complete : IsComplete said reading writing status
-  pub input_fault : NamesFault said reading writing status
-  pub too_long : NamesTooLong said reading writing status
-  pub read_fault : status ≡ 3 → Rose reading.faults reading.faults_after
-  pub write_fault : status ≡ 4 → Rose writing.faults writing.faults_after
+    (it : Command) (input : List ℕ) → IsRun said it reading writing input → most_bytes < length input → EndsWith 7 status

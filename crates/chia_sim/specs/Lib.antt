@@ -4,6 +4,7 @@ pub mod Replies
 pub mod Looks
 pub mod Outside
 pub mod Tools
+pub mod Evals
 pub mod Outputs
 pub mod Played
 pub mod Headline

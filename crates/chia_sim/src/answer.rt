@@ -2,6 +2,7 @@ ghost use Rattle.std.specs.Prelude.{◌≤◌, IfOk, length};
 ghost use Rattle.chia_sim.specs.Outside.{most_bytes};
 ghost use Rattle.chia_sim.specs.Stops.{IsAnswer};
 
+use crate::eval::eval_answer;
 use crate::hash::hash_answer;
 use crate::session::session_answer;
 use coin_facts::OutOfMemory;
@@ -19,13 +20,14 @@ pub(crate) enum Answer {
 pub(crate) fn answer_to(
     alloc: Global,
     command: Command,
-    input: &[u8],
+    input: Vec<u8>,
 ) -> Result<Answer, OutOfMemory>
-    requires { length input.now ≤ most_bytes }
-    ensures { IfOk result (IsAnswer command input.now) }
+    requires { length input.items ≤ most_bytes }
+    ensures { IfOk result (IsAnswer command input.items) }
 {
     match command {
-        Command::Session => session_answer(alloc, input),
+        Command::Session => session_answer(alloc, &input),
         Command::Hash => hash_answer(alloc, input),
+        Command::Eval { cost, as_text, env } => eval_answer(alloc, cost, as_text, &env, input),
     }
 }

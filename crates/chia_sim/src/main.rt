@@ -3,12 +3,14 @@
 
 mod answer;
 mod bundles;
+mod eval;
 mod form;
 mod hash;
 mod lines;
 mod members;
 mod opening;
 mod play;
+mod refusal;
 mod reply;
 mod report;
 mod run;

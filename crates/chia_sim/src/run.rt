@@ -1,7 +1,8 @@
-ghost use Rattle.std.specs.Prelude.{◌≡◌, ◌≤◌, Some, false, IfOk, IfErr};
+ghost use Rattle.std.specs.Prelude.{◌≡◌, ◌≤◌, Some, None, false, IfOk, IfErr};
+ghost use Rattle.ports_io.specs.Outside.{Rose};
 ghost use Rattle.chia_sim.specs.Outside.{reading, writing, WritesLine};
 ghost use Rattle.chia_sim.specs.Headline.{said, Ends};
-ghost use Rattle.chia_sim.specs.Causes.{HasCauses};
+ghost use Rattle.chia_sim.specs.Causes.{EndsWith, IsComplete, NamesFault, NamesTooLong};
 ghost use Rattle.chia_sim.specs.Stops.{status_of, words_of, HasCause, IsAnswerTo, Finishes};
 ghost use Rattle.chia_sim.specs.FirstWord.{begin_with_session};
 
@@ -31,17 +32,26 @@ pub fn run<S: Source, K: Sink, B: Library, G: Gate>(
     ensures headline { Ends (said words.now)
         (reading (S.left source.old) (S.left source.new) (S.faults source.old) (S.faults source.new))
         (writing (K.got sink.old) (K.got sink.new) (K.faults sink.old) (K.faults sink.new)) result }
-    ensures causes { HasCauses (said words.now)
+    ensures no_command { said words.now ≡ None → EndsWith 2 result }
+    ensures complete { IsComplete (said words.now)
         (reading (S.left source.old) (S.left source.new) (S.faults source.old) (S.faults source.new))
         (writing (K.got sink.old) (K.got sink.new) (K.faults sink.old) (K.faults sink.new)) result }
+    ensures input_fault { NamesFault (said words.now)
+        (reading (S.left source.old) (S.left source.new) (S.faults source.old) (S.faults source.new))
+        (writing (K.got sink.old) (K.got sink.new) (K.faults sink.old) (K.faults sink.new)) result }
+    ensures too_long { NamesTooLong (said words.now)
+        (reading (S.left source.old) (S.left source.new) (S.faults source.old) (S.faults source.new))
+        (writing (K.got sink.old) (K.got sink.new) (K.faults sink.old) (K.faults sink.new)) result }
+    ensures read_fault { result ≡ 3 → Rose (S.faults source.old) (S.faults source.new) }
+    ensures write_fault { result ≡ 4 → Rose (K.faults sink.old) (K.faults sink.new) }
     ensures source_later { S.faults source.old ≤ S.faults source.new }
     ensures sink_later { K.faults sink.old ≤ K.faults sink.new }
+    ensures library { library.new ≡ library.old }
 {
     if begin_with_session(words) {
-        run_words(alloc, words, source, sink)
-    } else {
-        run_tool(alloc, words, source, sink, library)
+        return run_words(alloc, words, source, sink);
     }
+    run_tool(alloc, words, source, sink, library)
 }
 
 /// Runs a command on one input. The first word isn't `session`. The library isn't asked.
@@ -56,11 +66,21 @@ pub fn run_tool<S: Source, K: Sink, B: Library>(
     ensures headline { Ends (said words.now)
         (reading (S.left source.old) (S.left source.new) (S.faults source.old) (S.faults source.new))
         (writing (K.got sink.old) (K.got sink.new) (K.faults sink.old) (K.faults sink.new)) result }
-    ensures causes { HasCauses (said words.now)
+    ensures no_command { said words.now ≡ None → EndsWith 2 result }
+    ensures complete { IsComplete (said words.now)
         (reading (S.left source.old) (S.left source.new) (S.faults source.old) (S.faults source.new))
         (writing (K.got sink.old) (K.got sink.new) (K.faults sink.old) (K.faults sink.new)) result }
+    ensures input_fault { NamesFault (said words.now)
+        (reading (S.left source.old) (S.left source.new) (S.faults source.old) (S.faults source.new))
+        (writing (K.got sink.old) (K.got sink.new) (K.faults sink.old) (K.faults sink.new)) result }
+    ensures too_long { NamesTooLong (said words.now)
+        (reading (S.left source.old) (S.left source.new) (S.faults source.old) (S.faults source.new))
+        (writing (K.got sink.old) (K.got sink.new) (K.faults sink.old) (K.faults sink.new)) result }
+    ensures read_fault { result ≡ 3 → Rose (S.faults source.old) (S.faults source.new) }
+    ensures write_fault { result ≡ 4 → Rose (K.faults sink.old) (K.faults sink.new) }
     ensures source_later { S.faults source.old ≤ S.faults source.new }
     ensures sink_later { K.faults sink.old ≤ K.faults sink.new }
+    ensures library { _library.new ≡ _library.old }
 {
     run_words(alloc, words, source, sink)
 }
@@ -121,7 +141,7 @@ fn answer<S: Source>(alloc: Global, command: Command, source: &mut S) -> Result<
     ensures later { S.faults source.old ≤ S.faults source.new }
 {
     let input = read_to_limit(alloc, source, MOST_BYTES)?;
-    Ok(answer_to(alloc, command, &input)?)
+    Ok(answer_to(alloc, command, input)?)
 }
 
 // Writes an answer, and tells the status. A fault of the input keeps its status where the sink fails.

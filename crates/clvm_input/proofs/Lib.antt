@@ -1,2 +1,4 @@
 pub mod Blanks
 pub mod Wholes
+pub mod Refusals
+pub mod Examples

@@ -1,4 +1,5 @@
 pub mod Texts
 pub mod Inputs
+pub mod Words
 pub mod Answers
 pub mod Decoded

@@ -10,15 +10,17 @@ use crate::{Fault, InputFault};
 use clvm_tree::{Node, ReadFault, Trees};
 use std::alloc::Global;
 
-/// Reads the tree of an input, or tells its first fault. Earlier nodes stand, whatever the answer.
-pub fn read_input(alloc: Global, trees: &mut Trees, input: &[u8]) -> Result<Node, InputFault>
-    requires short { length input.now ≤ 2 ^ 26 }
-    requires fits { length trees.old + length input.now < 2 ^ 31 }
-    ensures read { IsInput (clvm_input input.now) trees.new result }
+/// Reads the tree of an input, or tells its first fault. Earlier nodes stand, whatever the answer. The input's memory is
+/// given back before any tree takes some.
+pub fn read_input(alloc: Global, trees: &mut Trees, input: Vec<u8>) -> Result<Node, InputFault>
+    requires short { length input.items ≤ 2 ^ 26 }
+    requires fits { length trees.old + length input.items < 2 ^ 31 }
+    ensures read { IsInput (clvm_input input.items) trees.new result }
     ensures grows { Grows trees.old trees.new }
-    ensures few { length trees.new ≤ length trees.old + length input.now }
+    ensures few { length trees.new ≤ length trees.old + length input.items }
 {
-    let bytes = bytes_of(alloc, trimmed(input))?;
+    let bytes = bytes_of(alloc, trimmed(&input))?;
+    drop(input);
     read_bytes(alloc, trees, &bytes)
 }
 

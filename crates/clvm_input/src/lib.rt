@@ -1,4 +1,4 @@
-//! CLVM input: the hexadecimal of exactly one spelled tree.
+//! CLVM input and CLVM words: the hexadecimal of exactly one spelled tree.
 #![tactic(auto)]
 
 ghost use Rattle.std.specs.Prelude.{◌≡◌};
@@ -8,9 +8,11 @@ mod input;
 #[cfg(test)]
 mod tests;
 mod text;
+mod word;
 
 pub use clvm_tree::OutOfMemory;
 pub use input::read_input;
+pub use word::{Word, read_word};
 
 /// What is wrong with an input, at the first place where it is: it isn't hexadecimal, or its bytes aren't one spelled
 /// tree. Places count the bytes that the digits stand for.

@@ -3,12 +3,12 @@ use clvm_tree::Trees;
 use std::alloc::Global;
 use std::test::Fail;
 
-fn fault(alloc: Global, input: &str) -> Option<InputFault> {
+fn fault(alloc: Global, input: &str) -> Result<Option<InputFault>, Fail> {
     if input.len() > 1_000 {
-        return None;
+        return Ok(None);
     }
-    let mut trees = Trees::new(alloc);
-    read_input(alloc, &mut trees, input.as_bytes()).err()
+    let input = Vec::from_slice(alloc, input.as_bytes())?;
+    Ok(read_input(alloc, &mut Trees::new(alloc), input).err())
 }
 
 #[test]
@@ -36,10 +36,44 @@ fn inputs_and_their_faults(rt: HostRuntime) -> Result<(), Fail> {
     ];
     for (input, want) in rows {
         assert_eq!(rt;
-            fault(rt.alloc(), input),
+            fault(rt.alloc(), input)?,
             want.map(InputFault::Faulty),
             "{input}"
         );
+    }
+    Ok(())
+}
+
+// The bytes that a word stands for, in hexadecimal.
+fn word_bytes(alloc: Global, text: &str) -> Result<String, Fail> {
+    match read_word(alloc, text.as_bytes())? {
+        Some(word) => Ok(hex::encode(alloc, word.as_slice())?),
+        None => Ok(String::from_str(alloc, "none")?),
+    }
+}
+
+#[test]
+fn words_are_one_spelled_tree(rt: HostRuntime) -> Result<(), Fail> {
+    let rows = [
+        ("80", "80"),
+        ("0x80", "80"),
+        ("0xFF01Ff0280", "ff01ff0280"),
+        ("", "none"),
+        ("0x", "none"),
+        ("0X80", "none"),
+        (" 80", "none"),
+        ("80\n", "none"),
+        ("8 0", "none"),
+        ("8", "none"),
+        ("8g", "none"),
+        ("8101", "none"),
+        ("ff01", "none"),
+        ("fe", "none"),
+        ("8080", "none"),
+    ];
+    for (text, want) in rows {
+        let got = word_bytes(rt.alloc(), text)?;
+        assert!(rt; got.as_str() == want, "{text}: {got}");
     }
     Ok(())
 }

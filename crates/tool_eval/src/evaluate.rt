@@ -72,15 +72,15 @@ fn read_environment(alloc: Global, trees: &mut Trees, env: &[u8]) -> Result<Node
 /// The input's first fault, or want of memory.
 pub fn eval(
     alloc: Global,
-    input: &[u8],
+    input: Vec<u8>,
     env: &[u8],
     style: Style,
     cost: u64,
 ) -> Result<String, InputFault>
-    requires short { length input.now ≤ 2 ^ 26 }
+    requires short { length input.items ≤ 2 ^ 26 }
     requires env_short { length env.now ≤ 2 ^ 26 }
     requires env_spelled { IsSome (tree_of env.now) }
-    ensures { (tree : Tree) → tree_of env.now ≡ Some tree → IsEvaluated style cost tree input.now result }
+    ensures { (tree : Tree) → tree_of env.now ≡ Some tree → IsEvaluated style cost tree input.items result }
 {
     let mut trees = Trees::new(alloc);
     let program = read_input(alloc, &mut trees, input)?;

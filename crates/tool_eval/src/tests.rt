@@ -14,7 +14,8 @@ fn line(alloc: Global, program: &str, env: &str, style: Style, cost: u64) -> Res
         return Ok(String::new(alloc));
     }
     Trees::new(alloc).read_whole(alloc, &env)?;
-    Ok(eval(alloc, program.as_bytes(), &env, style, cost)?)
+    let program = Vec::from_slice(alloc, program.as_bytes())?;
+    Ok(eval(alloc, program, &env, style, cost)?)
 }
 
 #[test]

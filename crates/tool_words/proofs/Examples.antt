@@ -2,6 +2,7 @@
 use Rattle.std.proofs.Common.{◌≡◌, [], ◌∷◌, Some, None, refl, codes}
 use Rattle.tool_words.specs.Rows.{Row, IsFlag, IsNumber, IsOther, said_in}
 use Rattle.tool_words.specs.Commands.{command_of}
+use Rattle.tool_words.specs.Evals.{cost_of}
 use Rattle.tool_words.specs.declared.said.Command.TheVariants.{Session, Hash}
 
 session : command_of (codes "session" ∷ []) ≡ Some Session
@@ -111,3 +112,24 @@ twenty_one_digits = refl
 empty_word : said_in one ([] ∷ []) ≡ Some (IsOther [] ∷ [])
 unfolding one
 empty_word = refl
+
+eval_alone : command_of (codes "eval" ∷ []) ≡ None
+eval_alone = refl
+
+eval_of_two : command_of (codes "eval" ∷ codes "80" ∷ codes "80" ∷ []) ≡ None
+eval_of_two = refl
+
+no_cost : cost_of None ≡ Some 11_000_000_000
+no_cost = refl
+
+most : cost_of (Some (codes "1000000000000")) ≡ Some 1_000_000_000_000
+most = refl
+
+past_most : cost_of (Some (codes "1000000000001")) ≡ None
+past_most = refl
+
+zeros : cost_of (Some (codes "00000000000000000000")) ≡ Some 0
+zeros = refl
+
+twenty_nines : cost_of (Some (codes "99999999999999999999")) ≡ None
+twenty_nines = refl

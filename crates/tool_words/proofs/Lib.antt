@@ -7,3 +7,5 @@ pub mod Found
 pub mod Laws
 pub mod Rules
 pub mod Answered
+pub mod Evaluations
+pub mod Names

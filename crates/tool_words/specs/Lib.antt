@@ -1,4 +1,5 @@
 pub mod Rows
 pub mod Parser
+pub mod Evals
 pub mod Commands
 pub mod Fits
