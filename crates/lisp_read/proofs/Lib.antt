@@ -1,0 +1,8 @@
+mod GrammarRows
+pub mod BoundLaws
+pub mod ListLaws
+pub mod StepLaws
+pub mod ReadLaws
+pub mod PlaceLaws
+pub mod LineLaws
+pub mod CopyLaws

@@ -1,0 +1,10 @@
+pub mod Forms
+pub mod FormCode
+pub mod Views
+pub mod Turns
+pub mod Copies
+pub mod Grammar
+pub mod FromHere
+pub mod Faults
+pub mod OpenLists
+pub mod Laws

@@ -1,0 +1,138 @@
+//! The lists that are open where a text is read.
+
+ghost use Rattle.std.specs.Prelude.{◌≡◌, ◌∷◌, ◌++◌, [], true, IfOk};
+ghost use Rattle.lisp_read.specs.declared.lists.Reach.TheVariants as reach;
+ghost use Rattle.lisp_read.specs.Views.{form_of};
+ghost use Rattle.lisp_read.specs.OpenLists.{takes_form, takes_dot, takes_end, dot_of, list_of, with_next};
+
+use crate::{Form, Forms, OutOfMemory, Place, Word};
+use std::alloc::Global;
+
+/// How far a list is read: up to its `(` or an element, up to the dot at this place, or up to the form behind that dot.
+#[derive(Drop)]
+pub(crate) enum Reach {
+    Elements,
+    Dot(u32),
+    Last(u32, Form),
+}
+
+/// A list that is open, with its elements so far.
+#[derive(Drop)]
+pub(crate) struct OpenList {
+    pub(crate) place: Place,
+    pub(crate) forms: Forms,
+    pub(crate) reach: Reach,
+}
+
+impl OpenList {
+    pub(crate) fn new(alloc: Global, place: Place) -> OpenList
+        ensures { result ≡ record { place = place; forms = []; reach = reach.Elements } }
+    {
+        OpenList {
+            place,
+            forms: Forms::new(alloc),
+            reach: Reach::Elements,
+        }
+    }
+
+    pub(crate) fn takes_form(&self) -> bool
+        ensures { result ≡ takes_form self.now.reach }
+    {
+        match self.reach {
+            Reach::Elements => true,
+            Reach::Dot(_) => true,
+            Reach::Last(_, _) => false,
+        }
+    }
+
+    pub(crate) fn takes_dot(&self) -> bool
+        ensures { result ≡ takes_dot self.now.reach self.now.forms }
+    {
+        match self.reach {
+            Reach::Elements => !self.forms.is_empty(),
+            Reach::Dot(_) => false,
+            Reach::Last(_, _) => false,
+        }
+    }
+
+    pub(crate) fn takes_end(&self) -> bool
+        ensures { result ≡ takes_end self.now.reach }
+    {
+        match self.reach {
+            Reach::Elements => true,
+            Reach::Dot(_) => false,
+            Reach::Last(_, _) => true,
+        }
+    }
+
+    pub(crate) fn dot(&self) -> Option<u32>
+        ensures { result ≡ dot_of self.now.reach }
+    {
+        match self.reach {
+            Reach::Elements => None,
+            Reach::Dot(dot) => Some(dot),
+            Reach::Last(dot, _) => Some(dot),
+        }
+    }
+
+    pub(crate) fn with_dot(self, dot: u32) -> OpenList
+        ensures { result ≡ record self { reach = reach.Dot dot } }
+    {
+        let OpenList {
+            place,
+            forms,
+            reach: _,
+        } = self;
+        let reach = Reach::Dot(dot);
+        OpenList {
+            place,
+            forms,
+            reach,
+        }
+    }
+
+    pub(crate) fn with_form(self, alloc: Global, form: Form) -> Result<OpenList, OutOfMemory>
+        requires { takes_form self.reach ≡ true }
+        ensures { IfOk result (λ list. list ≡ with_next self.place self.forms self.reach form) }
+    {
+        let OpenList {
+            place,
+            mut forms,
+            reach,
+        } = self;
+        let reach = match reach {
+            Reach::Elements => {
+                forms.push(alloc, form)?;
+                Reach::Elements
+            }
+            Reach::Dot(dot) => Reach::Last(dot, form),
+            Reach::Last(_, _) => unreachable!(),
+        };
+        Ok(OpenList {
+            place,
+            forms,
+            reach,
+        })
+    }
+
+    /// The list, which ends there.
+    #[tactic(auto, using(crate::proofs::ListLaws::pairs_push))]
+    pub(crate) fn whole(self, alloc: Global) -> Result<Form, OutOfMemory>
+        requires { takes_end self.reach ≡ true }
+        ensures { IfOk result (λ form. form_of form ≡ list_of self) }
+    {
+        let OpenList {
+            place,
+            mut forms,
+            reach,
+        } = self;
+        let mut rest = match reach {
+            Reach::Last(_, form) => form,
+            _ => Form::Atom(place, Word::from_vec(Vec::new(alloc))),
+        };
+        'elements: while let Some(first) = forms.pop() {
+            rest = Form::pair(alloc, place, first, rest)?;
+        }
+        Ok(rest)
+    }
+}
