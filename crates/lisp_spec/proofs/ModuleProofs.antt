@@ -1,0 +1,264 @@
+-- What the stages of a module without fault say of it.
+use Rattle.std.proofs.Common.{◌≡◌, ℕ, ◌≤◌, ◌⊎◌, inl, inr, Bool, true, false, not, ◌&&◌, ◌||◌, cond, List, [], ◌∷◌, ◌++◌, map, filter, Option, Some, None, Ok, Err, refl, sym, ◌∙◌, ap, subst, arith, append_assoc, leb-true, nat_lt}
+use Rattle.std.proofs.lemmas.List.{append-nil, map-append}
+use Rattle.clvm_spec.specs.Tree.{Tree, Atom}
+use Rattle.lisp_spec.specs.Forms.{Form, Place}
+use Rattle.lisp_spec.specs.Forms as form
+use Rattle.lisp_spec.specs.Modules.{Definition, Constant, Module, constant_named}
+use Rattle.lisp_spec.specs.Weights.{tree_weight, weight_limit}
+use Rattle.lisp_spec.specs.ModuleFaults.{Kind, InlineCycle, TooLarge, Fault, fault, Judged, ◌>>=◌, ◌or◌, unless, expect}
+use Rattle.lisp_spec.specs.Definitions as roles
+use Rattle.lisp_spec.specs.Definitions.{Role, Function, Inline, Macro, Written, is_role, names_of, constants_in, macros_in, without_macros, functions_in, inlines_in, definition}
+use Rattle.lisp_spec.specs.Inclusion.{Texts, Parts, parts_of_text, definitions_of}
+use Rattle.lisp_spec.specs.FormParts.{Expression}
+use Rattle.lisp_spec.specs.FormFaults.{Scope, form_fault}
+use Rattle.lisp_spec.specs.Constants.{Value, met, symbol_value, pair_value, form_value, with_constant, constants_after}
+use Rattle.lisp_spec.specs.Cycles.{reaches_itself}
+use Rattle.lisp_spec.specs.ExpressionWeights.{expression_weight, definition_weight}
+use Rattle.lisp_spec.specs.ModuleOf.{Draft, draft_of, constant_scope, body_scope, draft_scope, forms_fault, draft_fault, cycle_fault, is_light, weights_fault, module_with, module_fault, module_of}
+use Rattle.lisp_spec.specs.ModuleLaws.{StandsFor, HasAnAnswer, IsBound, NamesAreBound, InlinesEnd, WeightsAreWithinTheLimit, ValuesAreWithinTheLimit}
+use Rattle.lisp_spec.specs.Modules.{definition_names, constant_names}
+use Rattle.std.specs.List.{AllByRecursion}
+
+-- ---- answers
+
+answer : (judged : Judged Module) → ((m : Module) × (judged ≡ Ok m)) ⊎ ((f : Fault) × (judged ≡ Err f))
+answer (Ok m) = inl (m, refl)
+answer (Err f) = inr (f, refl)
+
+pub has_an_answer : HasAnAnswer
+has_an_answer texts text = answer (module_of text texts)
+
+-- ---- steps
+
+pub then_ok : {A B : Type 0} (x : Judged A) (go : A → Judged B) (b : B) → (x >>= go) ≡ Ok b → (a : A) × (x ≡ Ok a) × (go a ≡ Ok b)
+then_ok (Ok a) go b e = (a, refl, e)
+then_ok (Err f) go b e = absurd cc
+
+abbrev pub ok : {A : Type 0} → A → Judged A
+ok a = Ok a
+
+pub ok_is : {A : Type 0} (a b : A) → ok a ≡ ok b → a ≡ b
+ok_is a b e = cc
+
+pub unless_ok : {A : Type 0} (f : Option Fault) (found a : A) → unless f found ≡ Ok a → (f ≡ None) × (found ≡ a)
+unless_ok None found a e = (refl, cc)
+unless_ok (Some f) found a e = absurd cc
+
+pub or_none : (a b : Option Fault) → (a or b) ≡ None → (a ≡ None) × (b ≡ None)
+or_none None b e = (refl, e)
+or_none (Some f) b e = absurd cc
+
+pub expect_none : (holds : Bool) (kind : Kind) (place : Place) → expect holds kind place ≡ None → holds ≡ true
+expect_none true kind place e = refl
+expect_none false kind place e = absurd cc
+
+-- what the stages of a module without fault gave
+pub record Stages (texts : Texts) (text : List ℕ) (m : Module) : Type 0 where
+  pub parts : Parts
+  pub written : List Written
+  pub draft : Draft
+  pub constants : List Constant
+  pub reads : parts_of_text text ≡ Ok parts
+  pub defines : definitions_of texts parts ≡ Ok written
+  pub expands : draft_of parts written ≡ Ok draft
+  pub names : draft_fault draft ≡ None
+  pub values : constants_after [] (constants_in draft.definitions) ≡ Ok constants
+  pub ends : module_fault draft (module_with draft constants) ≡ None
+  pub is : module_with draft constants ≡ m
+
+pub stages : (texts : Texts) (text : List ℕ) (m : Module) → StandsFor texts text m → Stages texts text m
+stages texts text m e =
+    let a = then_ok (parts_of_text text) _ m e in
+    let b = then_ok (definitions_of texts a.0) _ m a.2 in
+    let c = then_ok (draft_of a.0 b.0) _ m b.2 in
+    let d = then_ok (unless (draft_fault c.0) c.0) _ m c.2 in
+    let n = unless_ok (draft_fault c.0) c.0 d.0 d.1 in
+    let v = then_ok (constants_after [] (constants_in d.0.definitions)) _ m d.2 in
+    let w = unless_ok (module_fault d.0 (module_with d.0 v.0)) (module_with d.0 v.0) m v.2 in
+    record {
+      parts = a.0;
+      written = b.0;
+      draft = d.0;
+      constants = v.0;
+      reads = a.1;
+      defines = b.1;
+      expands = c.1 ∙ ap Ok n.1;
+      names = subst (λ t. draft_fault t ≡ None) n.1 n.0;
+      values = v.1;
+      ends = w.0;
+      is = w.1;
+    }
+
+-- ---- each
+
+pub each_append : {A : Type 0} (P : A → Type 0) (xs ys : List A) → AllByRecursion P xs → AllByRecursion P ys → AllByRecursion P (xs ++ ys)
+each_append P [] ys p q = q
+each_append P (x ∷ xs) ys p q = (p.0, each_append P xs ys p.1 q)
+
+pub each_map : {A B : Type 0} (P : B → Type 0) (f : A → B) (xs : List A) → AllByRecursion (λ x. P (f x)) xs → AllByRecursion P (map f xs)
+each_map P f [] p = tt
+each_map P f (x ∷ xs) p = (p.0, each_map P f xs p.1)
+
+pub each_weaker : {A : Type 0} (P Q : A → Type 0) → ((x : A) → P x → Q x) → (xs : List A) → AllByRecursion P xs → AllByRecursion Q xs
+each_weaker P Q h [] p = tt
+each_weaker P Q h (x ∷ xs) p = (h x p.0, each_weaker P Q h xs p.1)
+
+if_kept : {A : Type 0} (P : A → Type 0) (x : A) (xs : List A) (keep : Bool) → (keep ≡ true → P x) → AllByRecursion P xs → AllByRecursion P (cond keep (x ∷ xs) xs)
+if_kept P x xs true p q = (p refl, q)
+if_kept P x xs false p q = q
+
+-- Those that pass a test have what each has that passes it.
+pub each_filter : {A : Type 0} (P : A → Type 0) (test : A → Bool) (xs : List A) → AllByRecursion (λ x. test x ≡ true → P x) xs → AllByRecursion P (filter test xs)
+each_filter P test [] p = tt
+each_filter P test (x ∷ xs) p = if_kept P x (filter test xs) (test x) p.0 (each_filter P test xs p.1)
+
+-- ---- functions and inlines
+
+-- what holds of each that is no constant
+abbrev pub NoConstant : (Written → Type 0) → Written → Type 0
+NoConstant P d = is_role roles.Constant d.role ≡ false → P d
+
+function_is_none : (role : Role) → is_role Function role ≡ true → is_role roles.Constant role ≡ false
+function_is_none Function e = refl
+function_is_none Inline e = absurd cc
+function_is_none Macro e = absurd cc
+function_is_none roles.Constant e = absurd cc
+
+inline_is_none : (role : Role) → is_role Inline role ≡ true → is_role roles.Constant role ≡ false
+inline_is_none Function e = absurd cc
+inline_is_none Inline e = refl
+inline_is_none Macro e = absurd cc
+inline_is_none roles.Constant e = absurd cc
+
+pub of_functions : (P : Definition → Type 0) (definitions : List Written) → AllByRecursion (NoConstant (λ d. P (definition d))) definitions → AllByRecursion P (functions_in definitions)
+of_functions P definitions h =
+    each_map P definition (filter (λ d. is_role Function d.role) definitions)
+    (each_filter (λ d. P (definition d)) (λ d. is_role Function d.role) definitions
+    (each_weaker (NoConstant (λ d. P (definition d))) (λ d. is_role Function d.role ≡ true → P (definition d)) (λ d p e. p (function_is_none d.role e)) definitions h))
+
+pub of_inlines : (P : Definition → Type 0) (definitions : List Written) → AllByRecursion (λ d. is_role Inline d.role ≡ true → P (definition d)) definitions → AllByRecursion P (inlines_in definitions)
+of_inlines P definitions h = each_map P definition (filter (λ d. is_role Inline d.role) definitions) (each_filter (λ d. P (definition d)) (λ d. is_role Inline d.role) definitions h)
+
+pub of_all_inlines : (P : Definition → Type 0) (definitions : List Written) → AllByRecursion (NoConstant (λ d. P (definition d))) definitions → AllByRecursion P (inlines_in definitions)
+of_all_inlines P definitions h =
+    of_inlines P definitions (each_weaker (NoConstant (λ d. P (definition d))) (λ d. is_role Inline d.role ≡ true → P (definition d)) (λ d p e. p (inline_is_none d.role e)) definitions h)
+
+-- ---- names
+
+constant_step : (scope : Form → Scope) (earlier : List (List ℕ)) (d : Written) (definitions : List Written) (is : Bool) →
+    cond is (form_fault (constant_scope earlier) Expression d.body or forms_fault scope (earlier ++ d.name ∷ []) definitions)
+    (form_fault (scope d.params) Expression d.body or forms_fault scope earlier definitions) ≡ None →
+    (is ≡ false → form_fault (scope d.params) Expression d.body ≡ None) × ((next : List (List ℕ)) × (forms_fault scope next definitions ≡ None))
+constant_step scope earlier d definitions true e = (λ n. absurd cc, (earlier ++ d.name ∷ [], (or_none _ _ e).1))
+constant_step scope earlier d definitions false e = let h = or_none _ _ e in (λ n. h.0, (earlier, h.1))
+
+bound_bodies : (scope : Form → Scope) (earlier : List (List ℕ)) (definitions : List Written) → forms_fault scope earlier definitions ≡ None →
+    AllByRecursion (NoConstant (λ d. form_fault (scope d.params) Expression d.body ≡ None)) definitions
+bound_bodies scope earlier [] e = tt
+bound_bodies scope earlier (d ∷ definitions) e =
+    let h = constant_step scope earlier d definitions (is_role roles.Constant d.role) e in (h.0, bound_bodies scope h.1.0 definitions h.1.1)
+
+pub names_after : (earlier : List Constant) (definitions : List Written) (constants : List Constant) → constants_after earlier definitions ≡ Ok constants →
+    constant_names constants ≡ constant_names earlier ++ names_of definitions
+names_after earlier [] constants e = ap constant_names (sym (ok_is earlier constants e)) ∙ sym (append-nil (constant_names earlier))
+names_after earlier (d ∷ definitions) constants e =
+    let v = then_ok (form_value d.place earlier Value d.body) _ constants e in
+    names_after (with_constant d v.0 earlier) definitions constants v.2
+    ∙ ap (λ t. t ++ names_of definitions) (map-append (λ c. c.name) earlier (record { name = d.name; value = v.0 } ∷ []))
+    ∙ append_assoc (constant_names earlier) (d.name ∷ []) (names_of definitions)
+
+pub names_are_bound : NamesAreBound
+names_are_bound texts text m e =
+    let s = stages texts text m e in
+    let d = s.draft in
+    let h = or_none (forms_fault (draft_scope d.definitions) [] d.definitions) (form_fault (draft_scope d.definitions d.params) Expression d.body) s.names in
+    let bodies = bound_bodies (draft_scope d.definitions) [] d.definitions h.0 in
+    let n : constant_names s.constants ≡ names_of (constants_in d.definitions) = names_after [] (constants_in d.definitions) s.constants s.values in
+    let scoped : (names : List (List ℕ)) → Form → Scope = λ names. body_scope names (definition_names (functions_in d.definitions)) (definition_names (inlines_in d.definitions)) in
+    subst (λ m. AllByRecursion (λ f. IsBound m f.params f.body) m.functions × AllByRecursion (λ f. IsBound m f.params f.body) m.inlines × IsBound m m.params m.body) s.is
+    (subst (λ names. AllByRecursion (λ f. form_fault (scoped names f.params) Expression f.body ≡ None) (functions_in d.definitions)
+    × AllByRecursion (λ f. form_fault (scoped names f.params) Expression f.body ≡ None) (inlines_in d.definitions)
+    × (form_fault (scoped names d.params) Expression d.body ≡ None)) (sym n) (
+      of_functions (λ f. form_fault (draft_scope d.definitions f.params) Expression f.body ≡ None) d.definitions bodies,
+      of_all_inlines (λ f. form_fault (draft_scope d.definitions f.params) Expression f.body ≡ None) d.definitions bodies,
+      h.1,
+    ))
+
+-- ---- inlines and weights
+
+not_both : (a b : Bool) → not (a && b) ≡ true → a ≡ true → b ≡ false
+not_both true true e h = absurd cc
+not_both true false e h = refl
+not_both false b e h = absurd cc
+
+either_one : (a b : Bool) → (a || b) ≡ true → a ≡ false → b ≡ true
+either_one true b e h = absurd cc
+either_one false b e h = e
+
+no_cycles : (inlines : List Definition) (definitions : List Written) → cycle_fault inlines definitions ≡ None →
+    AllByRecursion (λ d. is_role Inline d.role ≡ true → reaches_itself inlines d.name ≡ false) definitions
+no_cycles inlines [] e = tt
+no_cycles inlines (d ∷ definitions) e =
+    let h = or_none (expect (not (is_role Inline d.role && reaches_itself inlines d.name)) InlineCycle d.place) (cycle_fault inlines definitions) e in
+    (not_both (is_role Inline d.role) (reaches_itself inlines d.name) (expect_none _ _ _ h.0), no_cycles inlines definitions h.1)
+
+pub inlines_end : InlinesEnd
+inlines_end texts text m e =
+    let s = stages texts text m e in
+    let made = module_with s.draft s.constants in
+    let h = or_none (cycle_fault made.inlines s.draft.definitions) _ s.ends in
+    subst (λ m. AllByRecursion (λ d. reaches_itself m.inlines d.name ≡ false) m.inlines) s.is
+    (of_inlines (λ d. reaches_itself made.inlines d.name ≡ false) s.draft.definitions (no_cycles made.inlines s.draft.definitions h.0))
+
+light_bodies : (m : Module) (definitions : List Written) → weights_fault m definitions ≡ None →
+    AllByRecursion (NoConstant (λ d. definition_weight m (definition d) ≤ weight_limit)) definitions
+light_bodies m [] e = tt
+light_bodies m (d ∷ definitions) e =
+    let h = or_none (expect (is_role roles.Constant d.role || is_light m d.params d.body) TooLarge d.place) (weights_fault m definitions) e in
+    (λ n. leb-true _ _ (either_one (is_role roles.Constant d.role) (is_light m d.params d.body) (expect_none _ _ _ h.0) n), light_bodies m definitions h.1)
+
+pub weights_are_within_the_limit : WeightsAreWithinTheLimit
+weights_are_within_the_limit texts text m e =
+    let s = stages texts text m e in
+    let made = module_with s.draft s.constants in
+    let h = or_none (cycle_fault made.inlines s.draft.definitions) _ s.ends in
+    let w = or_none (weights_fault made s.draft.definitions) (expect (is_light made made.params made.body) TooLarge s.draft.body_place) h.1 in
+    let bodies = light_bodies made s.draft.definitions w.0 in
+    subst (λ m. AllByRecursion (λ d. definition_weight m d ≤ weight_limit) m.functions × AllByRecursion (λ d. definition_weight m d ≤ weight_limit) m.inlines
+    × (expression_weight m m.params m.body ≤ weight_limit)) s.is (
+      of_functions (λ d. definition_weight made d ≤ weight_limit) s.draft.definitions bodies,
+      of_all_inlines (λ d. definition_weight made d ≤ weight_limit) s.draft.definitions bodies,
+      leb-true _ _ (expect_none _ _ _ w.1),
+    )
+
+-- ---- values
+
+met_light : (place : Place) (v tree : Tree) (heavy : Bool) → heavy ≡ nat_lt weight_limit (tree_weight v) →
+    cond heavy (Err (fault TooLarge place)) (Ok v) ≡ ok tree → tree_weight tree ≤ weight_limit
+met_light place v tree true h e = absurd cc
+met_light place v tree false h e = subst (λ t. tree_weight t ≤ weight_limit) (ok_is v tree e) (grind (arith, h))
+
+pub met_is_light : (place : Place) (v tree : Tree) → met place v ≡ Ok tree → tree_weight tree ≤ weight_limit
+met_is_light place v tree e = met_light place v tree (nat_lt weight_limit (tree_weight v)) refl e
+
+pub value_is_light : (place : Place) (earlier : List Constant) (f : Form) (tree : Tree) → form_value place earlier Value f ≡ Ok tree → tree_weight tree ≤ weight_limit
+value_is_light place earlier (form.Atom at bytes) tree e = met_is_light place (Atom bytes) tree e
+value_is_light place earlier (form.Symbol at name) tree e =
+    let v = then_ok (symbol_value place (constant_named name earlier)) (met place) tree e in met_is_light place v.0 tree v.2
+value_is_light place earlier (form.Pair at head behind) tree e =
+    let v = then_ok (pair_value place head (λ u. form_value place earlier u behind) behind) (met place) tree e in met_is_light place v.0 tree v.2
+
+light_after : (earlier : List Constant) (definitions : List Written) (constants : List Constant) → constants_after earlier definitions ≡ Ok constants →
+    AllByRecursion (λ c. tree_weight c.value ≤ weight_limit) earlier → AllByRecursion (λ c. tree_weight c.value ≤ weight_limit) constants
+light_after earlier [] constants e h = subst (AllByRecursion (λ c. tree_weight c.value ≤ weight_limit)) (ok_is earlier constants e) h
+light_after earlier (d ∷ definitions) constants e h =
+    let v = then_ok (form_value d.place earlier Value d.body) _ constants e in
+    light_after (with_constant d v.0 earlier) definitions constants v.2
+    (each_append (λ c. tree_weight c.value ≤ weight_limit) earlier (record { name = d.name; value = v.0 } ∷ []) h
+    (value_is_light d.place earlier d.body v.0 v.1, tt))
+
+pub values_are_within_the_limit : ValuesAreWithinTheLimit
+values_are_within_the_limit texts text m e =
+    let s = stages texts text m e in
+    subst (λ m. AllByRecursion (λ c. tree_weight c.value ≤ weight_limit) m.constants) s.is (light_after [] (constants_in s.draft.definitions) s.constants s.values tt)

@@ -1,0 +1,65 @@
+-- Curried programs: a program with its first arguments given. Source: Chialisp reference.
+use Rattle.std.specs.Prelude.{ℕ, Bool, false, ◌&&◌, List, [], ◌∷◌, Option, Some, None, option_map, if◌then◌else◌}
+use Rattle.clvm_spec.specs.Hashing.{atom_hash, pair_hash}
+use Rattle.clvm_spec.specs.Tree.{Tree, Atom, Pair, nil}
+use Rattle.clvm_spec.specs.Evaluation.{is_byte}
+
+-- `(q . TREE)`
+abbrev pub quote_of : Tree → Tree
+quote_of tree = Pair (Atom (1 ∷ [])) tree
+
+-- `(CODE X Y)`
+abbrev pub form_of_two : ℕ → Tree → Tree → Tree
+form_of_two code x y = Pair (Atom (code ∷ [])) (Pair x (Pair y nil))
+
+-- `(c (q . A1) (c (q . A2) .. 1))`: an environment with these in front
+abbrev pub environment_with : List Tree → Tree
+environment_with [] = Atom (1 ∷ [])
+environment_with (argument ∷ arguments) = form_of_two 4 (quote_of argument) (environment_with arguments)
+
+-- `(a (q . PROGRAM) (c (q . A1) (c (q . A2) .. 1)))`
+abbrev pub curried : (program : Tree) (arguments : List Tree) → Tree
+curried program arguments = form_of_two 2 (quote_of program) (environment_with arguments)
+
+-- ---- its hash, from those of its parts
+
+abbrev pub quote_hash : List ℕ → List ℕ
+quote_hash hash = pair_hash (atom_hash (1 ∷ [])) hash
+
+abbrev pub form_hash : ℕ → List ℕ → List ℕ → List ℕ
+form_hash code x y = pair_hash (atom_hash (code ∷ [])) (pair_hash x (pair_hash y (atom_hash [])))
+
+abbrev pub environment_hash : List (List ℕ) → List ℕ
+environment_hash [] = atom_hash (1 ∷ [])
+environment_hash (hash ∷ hashes) = form_hash 4 (quote_hash hash) (environment_hash hashes)
+
+abbrev pub curried_hash : (program : List ℕ) (arguments : List (List ℕ)) → List ℕ
+curried_hash program arguments = form_hash 2 (quote_hash program) (environment_hash arguments)
+
+-- ---- back to the parts
+
+abbrev pub is_code : ℕ → Tree → Bool
+is_code code (Atom bytes) = is_byte code bytes
+is_code code (Pair first rest) = false
+
+-- the arguments of `(c (q . A1) (c (q . A2) .. 1))`
+abbrev pub environment_arguments : Tree → Option (List Tree)
+environment_arguments (Atom bytes) = if is_byte 1 bytes then Some [] else None
+environment_arguments (Pair c (Pair (Pair q argument) (Pair more (Atom [])))) =
+    if is_code 4 c && is_code 1 q then option_map (λ arguments. argument ∷ arguments) (environment_arguments more) else None
+environment_arguments other = None
+
+pub record CurriedParts : Type 0 where
+  pub program : Tree
+  pub arguments : List Tree
+
+-- There is at least one argument.
+abbrev pub with_program : Tree → Option (List Tree) → Option CurriedParts
+with_program program None = None
+with_program program (Some []) = None
+with_program program (Some (argument ∷ more)) = Some (record { program = program; arguments = argument ∷ more })
+
+abbrev pub uncurried : Tree → Option CurriedParts
+uncurried (Pair a (Pair (Pair q program) (Pair environment (Atom [])))) =
+    if is_code 2 a && is_code 1 q then with_program program (environment_arguments environment) else None
+uncurried other = None

@@ -1,0 +1,10 @@
+//! The definitions of the language: expansion, modules, what the source of a module means, when code agrees with
+//! it, weights, and currying.
+#![tactic(auto)]
+
+pub mod constant_laws;
+pub mod curried_laws;
+pub mod expansion_laws;
+pub mod meaning_laws;
+pub mod module_laws;
+pub mod nesting_laws;
