@@ -1,0 +1,125 @@
+-- How long the code of a module is.
+use Rattle.std.proofs.Common.{◌≡◌, ℕ, zero, suc, ◌+◌, ◌*◌, ◌/◌, ◌^◌, ◌<◌, ◌≤◌, Bool, true, false, cond, ltb, List, [], ◌∷◌, length, Option, Some, None, option_map, bytes_eq, refl, sym, ap, subst, arith}
+use Rattle.std.proofs.lemmas.List.{length-append}
+use Rattle.std.proofs.lemmas.Bool.{cond_both}
+use Rattle.std.proofs.lemmas.Int.Digits.{length-digits_of-le}
+use Rattle.clvm_spec.specs.Tree.{Tree, Atom, Pair, nil, list_tree}
+use Rattle.clvm_spec.specs.Spelling.{prefix, spelling}
+use Rattle.lisp_spec.specs.Weights.{tree_weight}
+use Rattle.lisp_spec.specs.Parameters.{Side, ToFirst, ToRest}
+use Rattle.lisp_spec.specs.Modules.{Definition}
+use Rattle.lisp_spec.specs.Curried.{quote_of}
+use Rattle.lisp_code.specs.Paths.{path_number, path_atom}
+use Rattle.lisp_code.specs.Pieces.{operator_code, path_code, failing, pair_code, list_code, if_code, list_path, call_code}
+use Rattle.lisp_code.specs.Code.{index_of}
+use Rattle.lisp_code.proofs.Depths.{itself, looping}
+use Rattle.lisp_code.proofs.PathLaws.{bytes_of_bits}
+
+abbrev pub size : Tree → ℕ
+size tree = length (spelling tree)
+
+pub size_pair : (a b : Tree) → size (Pair a b) ≡ 1 + (size a + size b)
+size_pair a b = let l = length-append (spelling a) (spelling b) in omega arith
+
+length_prefix : (n : ℕ) → length (prefix n) ≤ 4
+length_prefix n =
+    cond_both (ltb n 0x40) _ _ (λ xs. length xs ≤ 4) (λ e. omega arith)
+    (λ e. cond_both (ltb n 0x2000) _ _ (λ xs. length xs ≤ 4) (λ e. omega arith)
+    (λ e. cond_both (ltb n 0x10_0000) _ _ (λ xs. length xs ≤ 4) (λ e. omega arith) (λ e. omega arith)))
+
+pub size_byte : (b : ℕ) → size (Atom (b ∷ [])) ≤ 2
+size_byte b = cond_both (ltb b 0x80) _ _ (λ xs. length xs ≤ 2) (λ e. omega arith) (λ e. omega arith)
+
+pub size_atom : (bytes : List ℕ) → size (Atom bytes) ≤ 5 + length bytes
+size_atom [] = omega arith
+size_atom (b ∷ []) = let h = size_byte b in omega arith
+size_atom (b ∷ c ∷ bytes) = let l = length-append (prefix (length (b ∷ c ∷ bytes))) (b ∷ c ∷ bytes) in let p = length_prefix (length (b ∷ c ∷ bytes)) in omega arith
+
+pub size_tree : (tree : Tree) → size tree ≤ 5 * tree_weight tree
+size_tree (Atom bytes) = let h = size_atom bytes in omega arith
+size_tree (Pair a b) = let h = size_pair a b in let x = size_tree a in let y = size_tree b in omega arith
+
+-- ---- paths
+
+number_below : (path : List Side) → path_number path < 2 ^ suc (length path)
+number_below [] = omega arith
+number_below (ToFirst ∷ path) = let h = number_below path in let p : 2 ^ suc (suc (length path)) ≡ 2 * 2 ^ suc (length path) = omega arith in omega arith
+number_below (ToRest ∷ path) = let h = number_below path in let p : 2 ^ suc (suc (length path)) ≡ 2 * 2 ^ suc (length path) = omega arith in omega arith
+
+two_rises : (i j : ℕ) → i ≤ j → 2 ^ i ≤ 2 ^ j
+two_rises i zero h = let e : i ≡ 0 = omega arith in subst (λ i. 2 ^ i ≤ 2 ^ 0) (sym e) (omega arith)
+two_rises zero (suc j) h = let k = two_rises zero j (omega arith) in let p : 2 ^ suc j ≡ 2 * 2 ^ j = omega arith in omega arith
+two_rises (suc i) (suc j) h =
+    let k = two_rises i j (omega arith) in let p : 2 ^ suc j ≡ 2 * 2 ^ j = omega arith in let q : 2 ^ suc i ≡ 2 * 2 ^ i = omega arith in omega arith
+
+length_path : (path : List Side) → length (path_atom path) ≤ length path / 8 + 1
+length_path path =
+    let k = length path / 8 + 1 in
+    let enough : 2 ^ suc (length path) ≤ 2 ^ (8 * k) = two_rises (suc (length path)) (8 * k) (omega arith) in
+    let below = number_below path in
+    length-digits_of-le 256 k (path_number path) (omega arith) (subst (λ p. path_number path < p) (sym (bytes_of_bits k)) (omega arith))
+
+pub size_path : (path : List Side) → size (path_code path) ≤ 6 + length path / 8
+size_path path = let a = size_atom (path_atom path) in let l = length_path path in omega arith
+
+length_list_path : (i : ℕ) → length (list_path i) ≡ suc i
+length_list_path zero = refl
+length_list_path (suc i) = ap suc (length_list_path i)
+
+-- ---- pieces
+
+pub size_quote : (tree : Tree) → size (quote_of tree) ≤ 3 + size tree
+size_quote tree = let p = size_pair (Atom (1 ∷ [])) tree in let b = size_byte 1 in omega arith
+
+pub size_failing : size failing ≤ 5
+size_failing = let p = size_pair (Atom (8 ∷ [])) nil in let b = size_byte 8 in omega arith
+
+pub size_one_operand : (code : ℕ) (a : Tree) → size (operator_code code (a ∷ [])) ≤ 5 + size a
+size_one_operand code a = let p = size_pair (Atom (code ∷ [])) (Pair a nil) in let q = size_pair a nil in let b = size_byte code in omega arith
+
+pub size_two : (code : ℕ) (a b : Tree) → size (operator_code code (a ∷ b ∷ [])) ≤ 6 + (size a + size b)
+size_two code a b = let p = size_pair (Atom (code ∷ [])) (Pair a (Pair b nil)) in let q = size_pair a (Pair b nil) in let r = size_pair b nil in let c = size_byte code in omega arith
+
+size_three : (code : ℕ) (a b c : Tree) → size (operator_code code (a ∷ b ∷ c ∷ [])) ≤ 7 + (size a + size b + size c)
+size_three code a b c =
+    let p = size_pair (Atom (code ∷ [])) (Pair a (Pair b (Pair c nil))) in let q = size_pair a (Pair b (Pair c nil)) in let r = size_pair b (Pair c nil) in let s = size_pair c nil in let d = size_byte code in omega arith
+
+pub size_looping : size looping ≤ 48
+size_looping =
+    let l = size_two 2 (quote_of itself) (quote_of itself) in let q = size_quote itself in let i = size_two 2 (path_code []) (path_code []) in let p = size_path [] in omega arith
+
+pub size_if : (t a b : Tree) → size (if_code t a b) ≤ 25 + (size t + size a + size b)
+size_if t a b =
+    let choice = operator_code 3 (t ∷ quote_of a ∷ quote_of b ∷ []) in
+    let l = size_two 2 choice (path_code []) in let p = size_path [] in let c = size_three 3 t (quote_of a) (quote_of b) in let qa = size_quote a in let qb = size_quote b in omega arith
+
+-- operands, each with 8 bytes to spare
+abbrev pub spare_sizes : List Tree → ℕ
+spare_sizes [] = 0
+spare_sizes (code ∷ more) = size code + 8 + spare_sizes more
+
+pub size_list : (operands : List Tree) → size (list_code operands) ≤ 4 + spare_sizes operands
+size_list [] = let q = size_quote nil in omega arith
+size_list (operand ∷ operands) = let p = size_two 4 operand (list_code operands) in let h = size_list operands in omega arith
+
+size_operands : (operands : List Tree) → size (list_tree operands) ≤ 1 + spare_sizes operands
+size_operands [] = omega arith
+size_operands (operand ∷ operands) = let p = size_pair operand (list_tree operands) in let h = size_operands operands in omega arith
+
+pub size_operator : (code : ℕ) (operands : List Tree) → size (operator_code code operands) ≤ 4 + spare_sizes operands
+size_operator code operands = let p = size_pair (Atom (code ∷ [])) (list_tree operands) in let b = size_byte code in let h = size_operands operands in omega arith
+
+index_either : (b : Bool) (later : Option ℕ) (bound i : ℕ) → ((j : ℕ) → later ≡ Some j → j < bound) → cond b (Some 0) (option_map (λ k. suc k) later) ≡ Some i → i < suc bound
+index_either true later bound i h e = let same : 0 ≡ i = cc in omega arith
+index_either false None bound i h e = absurd cc
+index_either false (Some j) bound i h e = let same : suc j ≡ i = cc in let below = h j refl in omega arith
+
+pub index_below : (name : List ℕ) (fs : List Definition) (i : ℕ) → index_of name fs ≡ Some i → i < length fs
+index_below name [] i e = absurd cc
+index_below name (d ∷ fs) i e = index_either (bytes_eq d.name name) (index_of name fs) (length fs) i (λ j h. index_below name fs j h) e
+
+pub size_call : (i functions : ℕ) (operands : List Tree) → i < functions → size (call_code i operands) ≤ 40 + functions / 8 + spare_sizes operands
+size_call i functions operands h =
+    let made = pair_code (path_code (ToFirst ∷ [])) (list_code operands) in
+    let l = size_two 2 (path_code (ToFirst ∷ list_path i)) made in let m = size_two 4 (path_code (ToFirst ∷ [])) (list_code operands) in
+    let p = size_path (ToFirst ∷ list_path i) in let n = length_list_path i in let q = size_path (ToFirst ∷ []) in let s = size_list operands in omega arith

@@ -1,0 +1,23 @@
+pub mod Refining
+pub mod Refined
+pub mod Plain
+pub mod PlainRuns
+pub mod Enough
+pub mod EnoughFuel
+pub mod PathLaws
+pub mod Depths
+pub mod PlainForms
+pub mod Corresponding
+pub mod Lookups
+pub mod Forward
+pub mod Backward
+pub mod Agreed
+pub mod Eventually
+pub mod Making
+pub mod Settling
+pub mod Limits
+pub mod Lengths
+pub mod Bounds
+pub mod HavingCode
+mod CodeRows
+mod AgreementRows

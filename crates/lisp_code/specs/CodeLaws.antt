@@ -1,0 +1,37 @@
+-- The code of a module agrees with it, and is no longer than its bound: laws of the definitions, each proved once for
+-- the crates above.
+use Rattle.std.specs.Prelude.{◌≡◌, ◌≤◌, length}
+use Rattle.clvm_spec.specs.Tree.{Pair, nil}
+use Rattle.clvm_spec.specs.Spelling.{spelling}
+use Rattle.lisp_spec.specs.Forms.{Form}
+use Rattle.lisp_spec.specs.Modules.{Module}
+use Rattle.lisp_spec.specs.Agreement.{Agrees}
+use Rattle.lisp_spec.specs.CycleLaws.{HasNoCycle}
+use Rattle.lisp_spec.specs.ExpressionWeights.{module_bound}
+use Rattle.lisp_code.specs.Names.{Names}
+use Rattle.lisp_code.specs.Code.{Codes, expression_code, whole_code}
+
+-- These are codes of all expressions, with whatever names: each is made of those that it goes on with.
+abbrev pub AreCodes : Module → Codes → Type 0
+AreCodes source code = (e : Form) (names : Names) → code e names ≡ expression_code source code e names
+
+-- codes whose whole agrees with the module, and has a spelling no longer than the module's bound
+pub record HasCode (source : Module) : Type 0 where
+  pub code : Codes
+  pub are_codes : AreCodes source code
+  pub agrees : Agrees source (whole_code source code)
+  pub within : length (spelling (whole_code source code)) ≤ module_bound source
+
+-- Where no inline reaches itself there are such codes.
+abbrev pub ModulesHaveCode : Type 0
+ModulesHaveCode = (source : Module) → HasNoCycle source → HasCode source
+
+-- Trees that are like codes, but with one pair more around each code that an expression goes on with. So the tree of an
+-- expression has more nodes than all those together of what its code is made of: a measure of the work. Only `qq` and
+-- `unquote` add none, and have the tree of their operand.
+abbrev pub AreMeasured : Module → Codes → Type 0
+AreMeasured source measured = (e : Form) (names : Names) → measured e names ≡ expression_code source (λ e names. Pair nil (measured e names)) e names
+
+-- Where no inline reaches itself, that work ends.
+abbrev pub WorkEnds : Type 0
+WorkEnds = (source : Module) → HasNoCycle source → (measured : Codes) × AreMeasured source measured

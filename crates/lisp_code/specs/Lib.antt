@@ -1,0 +1,5 @@
+pub mod Paths
+pub mod Names
+pub mod Pieces
+pub mod Code
+pub mod CodeLaws
