@@ -1,5 +1,5 @@
 -- Forms as lists. Source: Chialisp reference.
-use Rattle.std.specs.Prelude.{ℕ, List, [], ◌∷◌, Bool, true, false, Option, Some, None, option_map, option_and_then, bytes_eq}
+use Rattle.std.specs.Prelude.{ℕ, List, [], ◌∷◌, Bool, false, Option, Some, None, option_map, option_and_then, bytes_eq}
 use Rattle.lisp_spec.specs.Forms.{Form, Place}
 use Rattle.lisp_spec.specs.Forms as form
 
@@ -26,11 +26,6 @@ the_only forms = None
 
 abbrev pub single : Form → Option Form
 single list = option_and_then the_only (form_elements list)
-
-abbrev pub is_pair_form : Form → Bool
-is_pair_form (form.Atom at bytes) = false
-is_pair_form (form.Symbol at name) = false
-is_pair_form (form.Pair at first rest) = true
 
 -- whether a form is this symbol, wherever it stands
 abbrev pub is_symbol : List ℕ → Form → Bool

@@ -1,8 +1,8 @@
 -- What the body of a macro gives, from the forms of its operands. Source: Chialisp reference; which operators work on
 -- forms, the turns, the faults and their order, and the places of what is made, are this project's own.
 use Rattle.std.specs.Prelude.{ℕ, zero, suc, ◌==◌, Bool, true, false, List, [], ◌∷◌, length, Option, Some, None, find, bytes_eq, codes, if◌then◌else◌}
-use Rattle.lisp_spec.specs.Forms.{Form, Atom, Symbol, Pair, Place}
-use Rattle.lisp_spec.specs.FormLists.{form_elements, form_list, is_pair_form, is_symbol}
+use Rattle.lisp_spec.specs.Forms.{Form, Atom, Symbol, Pair, Place, is_pair}
+use Rattle.lisp_spec.specs.FormLists.{form_elements, form_list, is_symbol}
 use Rattle.lisp_spec.specs.Heads.{is_q, is_qq, is_if}
 use Rattle.lisp_spec.specs.Parameters.{Side, ToFirst, ToRest, path_of}
 use Rattle.lisp_spec.specs.Macros.{MacroFault, TurnsSpent, BadMacro}
@@ -69,7 +69,7 @@ pair_of_forms place (first ∷ rest ∷ []) = Some (Pair place first rest)
 pair_of_forms place values = None
 
 abbrev pub pair_flag : OnForms
-pair_flag place (form ∷ []) = Some (flag place (is_pair_form form))
+pair_flag place (form ∷ []) = Some (flag place (is_pair form))
 pair_flag place values = None
 
 abbrev pub choice_of_forms : OnForms
