@@ -2,12 +2,14 @@
 
 ghost use Rattle.std.specs.Prelude.{◌≡◌, map, IsTrue, option_map, option_copied};
 ghost use Rattle.case_table.specs.Table.{codes_rise};
+ghost use Rattle.case_table.specs.Columns.{high_code, kind_code};
 ghost use Rattle.clvm_spec.specs.OperatorTable.{operators as spec_operators, operator_of, operator_named};
 
 use crate::look_up::find_name;
 use crate::row::Row;
 
-/// The kinds of operands: any, pairs, atoms, numbers, or an atom and numbers.
+/// The kinds of operands: any, pairs, atoms, numbers, or an atom and numbers. The number of a kind is the constant of
+/// its name.
 pub const ANY: u8 = 0;
 
 pub const PAIRS: u8 = 1;
@@ -19,7 +21,8 @@ pub const NUMBERS: u8 = 3;
 pub const ATOM_AND_NUMBERS: u8 = 4;
 
 /// Hands all rows on to a macro, behind its arguments: code, name, the least and the largest count of operands, the cost
-/// whatever the operands are, their kind, and a name for the arm.
+/// whatever the operands are, their kind, and a name for the arm. `operators` ties each column but the last to the
+/// definitions' table.
 #[macro_export]
 macro_rules! operator_rows {
     ($with:ident $arguments:tt) => {
@@ -73,10 +76,14 @@ macro_rules! rows {
 
 static OPERATORS: [Row; 29] = operator_rows!(rows());
 
-/// The operator table.
+/// The operator table. Each column is that of the definitions' table, with 255 for any count and a constant for each kind.
 pub fn operators() -> &'static [Row; 29]
     ensures codes { map (λ row. row.code) result.now ≡ map (λ row. row.code) spec_operators }
     ensures names { map (λ row. row.name.now) result.now ≡ map (λ row. row.name) spec_operators }
+    ensures lows { map (λ row. row.arity_low) result.now ≡ map (λ row. row.least) spec_operators }
+    ensures highs { map (λ row. row.arity_high) result.now ≡ map (λ row. high_code row.most) spec_operators }
+    ensures costs { map (λ row. row.cost) result.now ≡ map (λ row. row.cost) spec_operators }
+    ensures kinds { map (λ row. row.kind) result.now ≡ map (λ row. kind_code row.kind) spec_operators }
     ensures rise { IsTrue (codes_rise (map (λ row. row.code) result.now)) }
 {
     &OPERATORS

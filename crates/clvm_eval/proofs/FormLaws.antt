@@ -8,7 +8,7 @@ use Rattle.clvm_spec.specs.declared.fuel.Which.TheVariants.{Cost, Depth}
 use Rattle.clvm_spec.specs.Tree.{Tree, Atom, Pair}
 use Rattle.clvm_spec.specs.ProperList.{elements}
 use Rattle.clvm_spec.specs.Outcomes.{NotAList, WrongCount, Outcome, Done, Failed, Spent}
-use Rattle.clvm_spec.specs.Evaluation.{if_done, charge, goes_on, in_form, apply_values, values_of, deeper, operator_form, evaluation}
+use Rattle.clvm_spec.specs.Evaluation.{if_done, charge, goes_on, in_form, apply_values, values_of, deeper, operator_form, evaluation, is_code}
 use Rattle.clvm_tree.specs.Nodes.{tree_at, IsKnown, AreKnown, Grows}
 use Rattle.clvm_tree.specs.Operators.{trees_at, outcome_by, IsAnswer, IsWithin}
 use Rattle.clvm_tree.specs.declared.Node.{Node}
@@ -21,7 +21,7 @@ use Rattle.clvm_eval.specs.declared.pending.Call.{Call}
 use Rattle.clvm_eval.specs.declared.pending.Task.{Task}
 use Rattle.clvm_eval.specs.declared.pending.Task.TheVariants as task
 use Rattle.clvm_eval.specs.declared.pending.Pending.{Pending}
-use Rattle.clvm_eval.specs.PendingWork.{Work, Evaluate, Operate, is_apply, operated, done_by, worked_off, ends, operand_work, Suffices, AllSuffice}
+use Rattle.clvm_eval.specs.PendingWork.{Work, Evaluate, Operate, operated, done_by, worked_off, ends, operand_work, Suffices, AllSuffice}
 use Rattle.clvm_eval.specs.Steps.{work_of, works, newest_first, pending_outcome, IsExpression, IsCall, IsTask, AreTasks, IsState, Awaits, expression_outcome, call_outcome, task_outcome, taken_by, goes_with, Advances, Pays, IsTooDeep, IsForm, HasElements, AddsOperands}
 use Rattle.clvm_eval.proofs.WorkLaws.{charge-paid, charge-short, deeper-within, deeper-spent, worked_off-append, AllSuffice-append, AllSuffice-operands, worked_off-form, ev-form}
 use Rattle.clvm_eval.proofs.StateLaws.{length-newest, AreTasks-push, AreTasks-init, AreKnown-take, AreKnown-drop, AreKnown-append, AreKnown-reverse, newest-taken, newest-kept, value_put}
@@ -171,7 +171,7 @@ module _ (trees : List Tree) (before after : Pending) (call : Call) (program env
   abbrev expression : Expression
   expression = record { program = program; env = env; depth = call.depth }
 
-  pub gone_on : Awaits trees before call.count → IsCall trees call → is_apply (tree_at trees call.code.0) ≡ true → call.count ≡ 2 → start + 2 ≡ length before.values.items → Pays 90 before.left after.left →
+  pub gone_on : Awaits trees before call.count → IsCall trees call → is_code 2 (tree_at trees call.code.0) ≡ true → call.count ≡ 2 → start + 2 ≡ length before.values.items → Pays 90 before.left after.left →
       env ≡ get_or before.values.items start env → program ≡ get_or before.values.items (start + 1) program → after.values.items ≡ take start before.values.items →
       after.tasks.items ≡ before.tasks.items ++ task.Evaluate expression ∷ [] → Advances trees trees before after call.count (call_outcome trees before call)
   gone_on awaits known apply two start_is paid env_is program_is values tasks =
@@ -205,7 +205,7 @@ module _ (trees : List Tree) (before after : Pending) (call : Call) (program env
       let back : suc (length items - call.count) ≡ suc (length after.values.items) = omega arith in
       let part : call_outcome trees before call ≡ evaluation (tree_at trees program.0) (tree_at trees env.0) call.depth after.left =
       ap (λ vs. operated (tree_at trees call.code.0) form call.depth vs before.left) taken
-      ∙ cond-true (is_apply (tree_at trees call.code.0)) _ _ apply
+      ∙ cond-true (is_code 2 (tree_at trees call.code.0)) _ _ apply
       ∙ charge-paid 90 before.left after.left (evaluation (tree_at trees program.0) (tree_at trees env.0) call.depth) paid
       in
       let task_known : IsExpression trees e = record { program = end_known.1.0; env = end_known.0; shallow = known.shallow } in
@@ -244,14 +244,14 @@ taken_long trees before call awaits =
     let there = awaits.there in
     length-take-le call.count (newest_first trees before.values.items) (omega (arith, length-newest trees before.values.items))
 
-pub wrong_count : (trees : List Tree) (before : Pending) (call : Call) → Awaits trees before call.count → is_apply (tree_at trees call.code.0) ≡ true → (call.count ≡ 2 → ⊥) → call_outcome trees before call ≡ Failed WrongCount (tree_at trees call.form.0)
+pub wrong_count : (trees : List Tree) (before : Pending) (call : Call) → Awaits trees before call.count → is_code 2 (tree_at trees call.code.0) ≡ true → (call.count ≡ 2 → ⊥) → call_outcome trees before call ≡ Failed WrongCount (tree_at trees call.form.0)
 wrong_count trees before call awaits apply other =
-    cond-true (is_apply (tree_at trees call.code.0)) _ _ apply
+    cond-true (is_code 2 (tree_at trees call.code.0)) _ _ apply
     ∙ goes_on-count (tree_at trees call.form.0) call.depth (take call.count (newest_first trees before.values.items)) before.left (λ e. other (sym (taken_long trees before call awaits) ∙ e))
 
-pub unpaid_apply : (trees : List Tree) (before : Pending) (call : Call) → Awaits trees before call.count → is_apply (tree_at trees call.code.0) ≡ true → call.count ≡ 2 → before.left.cost < 90 → call_outcome trees before call ≡ Spent Cost
+pub unpaid_apply : (trees : List Tree) (before : Pending) (call : Call) → Awaits trees before call.count → is_code 2 (tree_at trees call.code.0) ≡ true → call.count ≡ 2 → before.left.cost < 90 → call_outcome trees before call ≡ Spent Cost
 unpaid_apply trees before call awaits apply two short =
-    cond-true (is_apply (tree_at trees call.code.0)) _ _ apply
+    cond-true (is_code 2 (tree_at trees call.code.0)) _ _ apply
     ∙ goes_on-short (tree_at trees call.form.0) call.depth (take call.count (newest_first trees before.values.items)) before.left (taken_long trees before call awaits ∙ two) short
 
 -- ---- an operator
@@ -287,11 +287,11 @@ pub on_ok : {T E : Type 0} (r : Result T E) (P Q : Type 0) → (P → Q) → OnO
 on_ok (Ok x) P Q f h = f h
 on_ok (Err e) P Q f h = h
 
-pub other_part : (trees : List Tree) (before : Pending) (call : Call) → is_apply (tree_at trees call.code.0) ≡ false →
+pub other_part : (trees : List Tree) (before : Pending) (call : Call) → is_code 2 (tree_at trees call.code.0) ≡ false →
     call_outcome trees before call ≡ in_form (tree_at trees call.form.0) before.left (outcome_by (tree_at trees call.code.0) (take call.count (newest_first trees before.values.items)) before.left)
-other_part trees before call other = cond-false (is_apply (tree_at trees call.code.0)) _ _ other
+other_part trees before call other = cond-false (is_code 2 (tree_at trees call.code.0)) _ _ other
 
-pub answered : (old new : List Tree) (before after : Pending) (call : Call) (answer : Answer) → Awaits old before call.count → is_apply (tree_at old call.code.0) ≡ false → Grows old new →
+pub answered : (old new : List Tree) (before after : Pending) (call : Call) (answer : Answer) → Awaits old before call.count → is_code 2 (tree_at old call.code.0) ≡ false → Grows old new →
     length new ≤ length old + answer.pairs + answer.bytes → IsWithin before.left answer →
     IsAnswer new (outcome_by (tree_at old call.code.0) (take call.count (newest_first old before.values.items)) before.left) answer →
     after.tasks.items ≡ before.tasks.items → after.values.items ≡ take (length before.values.items - call.count) before.values.items ++ answer.value ∷ [] →

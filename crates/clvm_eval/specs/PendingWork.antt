@@ -1,9 +1,9 @@
 -- What pending work comes to, on trees: each piece of work goes on with what is below it. This project's own.
-use Rattle.std.specs.Prelude.{ℕ, suc, ◌-◌, ◌≤◌, Bool, false, List, [], ◌∷◌, take, drop, map, if◌then◌else◌}
+use Rattle.std.specs.Prelude.{ℕ, suc, ◌-◌, ◌≤◌, List, [], ◌∷◌, take, drop, map, if◌then◌else◌}
 use Rattle.clvm_spec.specs.declared.fuel.Fuel.{Fuel}
-use Rattle.clvm_spec.specs.Tree.{Tree, Atom, Pair}
+use Rattle.clvm_spec.specs.Tree.{Tree}
 use Rattle.clvm_spec.specs.Outcomes.{Outcome, Done, Wide}
-use Rattle.clvm_spec.specs.Evaluation.{if_done, is_byte, goes_on, in_form, evaluation}
+use Rattle.clvm_spec.specs.Evaluation.{if_done, is_code, goes_on, in_form, evaluation}
 use Rattle.clvm_tree.specs.Operators.{outcome_by}
 
 pub data Work : Type 0 where
@@ -16,13 +16,9 @@ pub data Work : Type 0 where
 abbrev pub Going : Type 0
 Going = List Tree → Fuel → Outcome
 
-abbrev pub is_apply : Tree → Bool
-is_apply (Atom code) = is_byte 2 code
-is_apply (Pair first rest) = false
-
 abbrev pub operated : Tree → Tree → ℕ → List Tree → Fuel → Outcome
 operated code form depth values left =
-    if is_apply code then goes_on evaluation form depth values left else in_form form left (outcome_by code values left)
+    if is_code 2 code then goes_on evaluation form depth values left else in_form form left (outcome_by code values left)
 
 abbrev pub done_by : Work → Going → Going
 done_by (Evaluate program env depth) go values left = if_done (evaluation program env depth left) (λ value after. go (value ∷ values) after)

@@ -126,6 +126,10 @@ fn comes_out_as_calculated_by_hand(rt: HostRuntime) -> Result<(), ReadFault> {
             b"\xff\x82\x01\x00\xff\xff\xff\xff\xff\xff\xff\xff\x05\x80\x80\x80\x80\x80\x80\x80\x80",
             Wanted::Done(76, b"\x05"),
         ),
+        // the empty path, and paths of zero bytes alone
+        (most, 0, b"\xff\x80\x05", Wanted::Done(44, b"\x80")),
+        (most, 0, b"\xff\x00\x05", Wanted::Done(48, b"\x80")),
+        (most, 0, b"\xff\x82\x00\x00\x05", Wanted::Done(52, b"\x80")),
         // a step's failure before its lack of cost
         (0, 0, b"\xff\x02\x80", Wanted::Failed(Why::Path, b"\x02")),
         (

@@ -19,7 +19,7 @@ use Rattle.clvm_ops.specs.OperandAtoms.{bytes_of, atoms_at, HaveAtoms}
 use Rattle.clvm_ops.proofs.NodeLists.{length-trees_at}
 
 pub equal_flag_is : (operands : List Tree) (x y : List ℕ) (same : Bool) → ((go : List ℕ → List ℕ → Applied) → two_atoms operands go ≡ go x y) → same ≡ bytes_eq x y
-    → equal_flag operands ≡ free (flag same) (117 + (length x + length y))
+    → equal_flag 117 operands ≡ free (flag same) (117 + (length x + length y))
 equal_flag_is operands x y same read e =
     read (λ a b. free (flag (bytes_eq a b)) (117 + (length a + length b))) ∙ ap (λ s. free (flag s) (117 + (length x + length y))) (sym e)
 
@@ -35,13 +35,13 @@ compared (x ∷ xs) [] = refl
 compared (x ∷ xs) (y ∷ ys) = ap (partial_ordering_then (Some (nat_cmp x y))) (compared xs ys) ∙ then_some (nat_cmp x y) (slice_cmp nat_cmp xs ys)
 
 pub bytes_greater_flag_is : (operands : List Tree) (x y : List ℕ) (greater : Bool) → ((go : List ℕ → List ℕ → Applied) → two_atoms operands go ≡ go x y)
-    → greater ≡ is_some_and is_gt (slice_partial_cmp (λ x y. Some (nat_cmp x y)) x y) → bytes_greater_flag operands ≡ free (flag greater) (117 + (length x + length y))
+    → greater ≡ is_some_and is_gt (slice_partial_cmp (λ x y. Some (nat_cmp x y)) x y) → bytes_greater_flag 117 operands ≡ free (flag greater) (117 + (length x + length y))
 bytes_greater_flag_is operands x y greater read e =
     read (λ a b. free (flag (is_gt (slice_cmp nat_cmp a b))) (117 + (length a + length b)))
     ∙ ap (λ s. free (flag s) (117 + (length x + length y))) (sym (e ∙ ap (is_some_and is_gt) (compared x y)))
 
-pub length_of_is : (operands : List Tree) (a : Tree) (bytes : List ℕ) → operands ≡ a ∷ [] → a ≡ Atom bytes → length_of operands ≡ new_number (173 + length bytes) (pos (length bytes))
-length_of_is operands a bytes list is = ap length_of (list ∙ ap (λ t. t ∷ []) is)
+pub length_of_is : (operands : List Tree) (a : Tree) (bytes : List ℕ) → operands ≡ a ∷ [] → a ≡ Atom bytes → length_of 173 operands ≡ new_number (173 + length bytes) (pos (length bytes))
+length_of_is operands a bytes list is = ap (length_of 173) (list ∙ ap (λ t. t ∷ []) is)
 
 pub atoms_push : (trees : List Tree) (nodes : List Node) (i : ℕ) (d : Node) → i < length nodes
     → concat (atoms_at trees (take (i + 1) nodes)) ≡ concat (atoms_at trees (take i nodes)) ++ bytes_of (tree_at trees (get_or nodes i d).0)
@@ -60,16 +60,16 @@ length-concat [] = refl
 length-concat (a ∷ atoms) = length-append a (concat atoms) ∙ ap (λ n. length a + n) (length-concat atoms) ∙ sym (sum_by-cons length a atoms)
 
 pub hash_of_is : (trees : List Tree) (operands : List Node) (size : ℕ) → HaveAtoms trees operands size
-    → hash_of (trees_at trees operands) ≡ Gives (Atom (sha256 (concat (atoms_at trees operands)))) (407 + 134 * length operands + 2 * size) 0 40
+    → hash_of 407 (trees_at trees operands) ≡ Gives (Atom (sha256 (concat (atoms_at trees operands)))) (407 + 134 * length operands + 2 * size) 0 40
 hash_of_is trees operands size have =
     let hash = sha256 (concat (atoms_at trees operands)) in
-    let cost : 87 + 134 * length (atoms_at trees operands) + 2 * lengths (atoms_at trees operands) + 320 ≡ 407 + 134 * length operands + 2 * size =
+    let cost : 407 + 134 * length (atoms_at trees operands) + 2 * lengths (atoms_at trees operands) ≡ 407 + 134 * length operands + 2 * size =
     omega (arith, have.size_is, count_atoms trees operands) in
     let bytes : length hash + 8 ≡ 40 = ap (λ n. n + 8) (length-sha256 (concat (atoms_at trees operands))) in
-    have.read (λ atoms. new_atom (87 + 134 * length atoms + 2 * lengths atoms + 320) (sha256 (concat atoms))) ∙ ap₂ (λ c b. Gives (Atom hash) c 0 b) cost bytes
+    have.read (λ atoms. new_atom (407 + 134 * length atoms + 2 * lengths atoms) (sha256 (concat atoms))) ∙ ap₂ (λ c b. Gives (Atom hash) c 0 b) cost bytes
 
 pub concat_of_is : (trees : List Tree) (operands : List Node) (size : ℕ) → HaveAtoms trees operands size
-    → concat_of (trees_at trees operands) ≡ Gives (Atom (concat (atoms_at trees operands))) (142 + 135 * length operands + 13 * size) 0 (size + 8)
+    → concat_of 142 (trees_at trees operands) ≡ Gives (Atom (concat (atoms_at trees operands))) (142 + 135 * length operands + 13 * size) 0 (size + 8)
 concat_of_is trees operands size have =
     let all = atoms_at trees operands in
     let cost : 142 + 135 * length all + 3 * lengths all + 10 * length (concat all) ≡ 142 + 135 * length operands + 13 * size =

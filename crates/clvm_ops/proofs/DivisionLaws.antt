@@ -38,7 +38,7 @@ written_pair_is cost a b m n first second =
     ap₂ (λ c k. Gives (Pair (Atom a) (Atom b)) c 1 k) costs bytes
 
 pub division_is : (operands : List Tree) (x y : List ℕ) (n d : ℤ) → ((go : List ℕ → List ℕ → Applied) → two_numbers operands go ≡ go x y) → n ≡ number x → d ≡ number y → is_zero d ≡ false
-    → quotient_and_remainder operands ≡ new_pair_of_numbers (1116 + 6 * (length x + length y)) (quotient n d) (remainder n d)
+    → quotient_and_remainder 1116 operands ≡ new_pair_of_numbers (1116 + 6 * (length x + length y)) (quotient n d) (remainder n d)
 division_is operands x y n d read first second some =
     let cost = 1116 + 6 * (length x + length y) in
     read (λ a b. unless_zero (number b) (new_pair_of_numbers (1116 + 6 * (length a + length b)) (quotient (number a) (number b)) (remainder (number a) (number b))))

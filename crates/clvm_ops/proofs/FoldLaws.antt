@@ -7,15 +7,15 @@ use Rattle.std.proofs.lemmas.Bool.{cond-true, leb-true}
 use Rattle.std.proofs.lemmas.Int.{to_z-of_z}
 use Rattle.std.proofs.lemmas.List.{drop_more, take_rest, get_or-map, length-map}
 use Rattle.clvm_spec.specs.Tree.{Tree, nil}
-use Rattle.clvm_spec.specs.Numbers.{number, shortest_atom}
+use Rattle.clvm_spec.specs.Numbers.{number, shortest_atom, is_short}
 use Rattle.clvm_spec.specs.Arithmetic.{fits_128}
 use Rattle.clvm_spec.specs.Outcomes.{Applied, TooWide}
-use Rattle.clvm_spec.specs.Operators.{from_left, factors_cost, new_number}
+use Rattle.clvm_spec.specs.Operators.{from_left, factors_cost, new_number, factor_cost}
 use Rattle.clvm_tree.specs.Nodes.{tree_at}
 use Rattle.clvm_tree.specs.Operators.{trees_at}
 use Rattle.clvm_tree.specs.declared.Node.{Node}
-use Rattle.clvm_ops.specs.OperandAtoms.{bytes_of, atoms_at, is_short}
-use Rattle.clvm_ops.specs.Folds.{numbers_at, held_from_left, held_difference, factor_cost, held_times, held_product}
+use Rattle.clvm_ops.specs.OperandAtoms.{bytes_of, atoms_at}
+use Rattle.clvm_ops.specs.Folds.{numbers_at, held_from_left, held_difference, held_times, held_product}
 use Rattle.clvm_ops.specs.declared.folds.Product.{Product}
 use Rattle.clvm_ops.proofs.Fits.{fits}
 use Rattle.clvm_ops.proofs.NodeLists.{length-trees_at}

@@ -34,7 +34,7 @@ sum_cost_is : (trees : List Tree) (operands : List Node) (size : ℕ) → HaveNu
 sum_cost_is trees operands size have = omega (arith, have.size_is, count_atoms trees operands)
 
 pub sum_of_is : (trees : List Tree) (operands : List Node) (size : ℕ) (sum : Option ℤ) → HaveNumbers trees operands size → sum ≡ held_from_left ◌+ℤ◌ (pos 0) (numbers_at trees operands)
-    → sum_of (trees_at trees operands) ≡ number_or_wide (99 + 320 * length operands + 3 * size) sum
+    → sum_of 99 (trees_at trees operands) ≡ number_or_wide (99 + 320 * length operands + 3 * size) sum
 sum_of_is trees operands size sum have is =
     let atoms = atoms_at trees operands in
     have.read (λ atoms. from_left ◌+ℤ◌ (pos 0) (map number atoms) (new_number (sum_cost atoms)))
@@ -42,7 +42,7 @@ sum_of_is trees operands size sum have is =
     ∙ ap₂ number_or_wide (sum_cost_is trees operands size have) (sym is)
 
 pub difference_of_is : (trees : List Tree) (operands : List Node) (size : ℕ) (difference : Option ℤ) → HaveNumbers trees operands size → difference ≡ held_difference (numbers_at trees operands)
-    → difference_of (trees_at trees operands) ≡ number_or_wide (99 + 320 * length operands + 3 * size) difference
+    → difference_of 99 (trees_at trees operands) ≡ number_or_wide (99 + 320 * length operands + 3 * size) difference
 difference_of_is trees operands size difference have is =
     let atoms = atoms_at trees operands in
     have.read (λ atoms. from_left ◌-ℤ◌ (number (get_or atoms 0 [])) (map number (drop 1 atoms)) (new_number (sum_cost atoms)))
@@ -50,7 +50,7 @@ difference_of_is trees operands size difference have is =
     ∙ ap₂ number_or_wide (sum_cost_is trees operands size have) (sym is)
 
 pub product_of_is : (trees : List Tree) (operands : List Node) (size : ℕ) (product : Option Product) → HaveNumbers trees operands size → product ≡ held_product (atoms_at trees operands)
-    → product_of (trees_at trees operands) ≡ product_or_wide product
+    → product_of 92 (trees_at trees operands) ≡ product_or_wide product
 product_of_is trees operands size product have is =
     have.read (λ atoms. let first = get_or atoms 0 (1 ∷ []) in from_left ◌*ℤ◌ (number first) (map number (drop 1 atoms)) (new_number (92 + factors_cost (length first) (number first) (drop 1 atoms))))
     ∙ product_is (atoms_at trees operands) ∙ ap product_or_wide (sym is)
@@ -61,7 +61,7 @@ is_zero-false (pos (suc n)) some = refl
 is_zero-false (negsuc n) some = refl
 
 pub quotient_of_is : (operands : List Tree) (x y : List ℕ) (n d : ℤ) (held : Option ℤ) → ((go : List ℕ → List ℕ → Applied) → two_numbers operands go ≡ go x y) → n ≡ number x → d ≡ number y
-    → is_zero d ≡ false → held ≡ if_fits (quotient n d) → quotient_of operands ≡ number_or_wide (988 + 4 * (length x + length y)) held
+    → is_zero d ≡ false → held ≡ if_fits (quotient n d) → quotient_of 988 operands ≡ number_or_wide (988 + 4 * (length x + length y)) held
 quotient_of_is operands x y n d held read first second some is =
     let cost = 988 + 4 * (length x + length y) in
     read (λ a b. unless_zero (number b) (new_number (988 + 4 * (length a + length b)) (quotient (number a) (number b))))
@@ -70,17 +70,17 @@ quotient_of_is operands x y n d held read first second some is =
     ∙ sym (number_or_wide-if_fits cost (quotient n d)) ∙ ap (number_or_wide cost) (sym is)
 
 pub greater_flag_is : (operands : List Tree) (x y : List ℕ) (greater : Bool) → ((go : List ℕ → List ℕ → Applied) → two_numbers operands go ≡ go x y) → greater ≡ int_lt (number y) (number x)
-    → greater_flag operands ≡ free (flag greater) (498 + 2 * (length x + length y))
+    → greater_flag 498 operands ≡ free (flag greater) (498 + 2 * (length x + length y))
 greater_flag_is operands x y greater read is =
     read (λ a b. free (flag (int_lt (number b) (number a))) (498 + 2 * (length a + length b))) ∙ ap (λ g. free (flag g) (498 + 2 * (length x + length y))) (sym is)
 
 pub complement_of_is : (operands : List Tree) (a : Tree) (bytes : List ℕ) (n : ℤ) → operands ≡ a ∷ [] → a ≡ Atom bytes → length bytes ≤ 16 → n ≡ negsuc 0 -ℤ number bytes
-    → complement_of operands ≡ new_number (331 + 3 * length bytes) n
+    → complement_of 331 operands ≡ new_number (331 + 3 * length bytes) n
 complement_of_is operands a bytes n list is short e =
-    ap complement_of list ∙ number_read 0 a bytes (λ a. new_number (331 + 3 * length a) (negsuc 0 -ℤ number a)) is short ∙ ap (new_number (331 + 3 * length bytes)) (sym e)
+    ap (complement_of 331) list ∙ number_read 0 a bytes (λ a. new_number (331 + 3 * length a) (negsuc 0 -ℤ number a)) is short ∙ ap (new_number (331 + 3 * length bytes)) (sym e)
 
 pub bits_of_is : (step : ℤ → ℤ → ℤ) (none : ℤ) (trees : List Tree) (operands : List Node) (size : ℕ) (n : ℤ) → HaveNumbers trees operands size → n ≡ fold step none (numbers_at trees operands)
-    → bits_of step none (trees_at trees operands) ≡ new_number (100 + 264 * length operands + 3 * size) n
+    → bits_of step none 100 (trees_at trees operands) ≡ new_number (100 + 264 * length operands + 3 * size) n
 bits_of_is step none trees operands size n have is =
     let cost : 100 + 264 * length (atoms_at trees operands) + 3 * lengths (atoms_at trees operands) ≡ 100 + 264 * length operands + 3 * size = omega (arith, have.size_is, count_atoms trees operands) in
     have.read (λ atoms. new_number (100 + 264 * length atoms + 3 * lengths atoms) (fold step none (map number atoms))) ∙ ap₂ new_number cost (sym is)

@@ -1,7 +1,7 @@
 -- How operands are read, from the first to the last.
 use Rattle.std.proofs.Common.{◌≡◌, ℕ, zero, suc, ◌+◌, ◌*◌, ◌^◌, ◌<◌, ◌≤◌, true, List, [], ◌∷◌, length, get_or, take, map, refl, sym, ap, ap₂, ◌∙◌, arith}
 use Rattle.std.specs.List.{All}
-use Rattle.std.proofs.lemmas.Bool.{cond-false, le-ltb, le-leb}
+use Rattle.std.proofs.lemmas.Bool.{cond-true, le-leb}
 use Rattle.std.proofs.lemmas.List.{take_all, get_or-map, length-map}
 use Rattle.std.proofs.lemmas.List.Elements.{All-more, All-map, All-weaker}
 use Rattle.std.proofs.lemmas.List.Sums.{sum_by_more}
@@ -12,11 +12,12 @@ use Rattle.clvm_tree.specs.Nodes.{tree_at}
 use Rattle.clvm_tree.specs.Operators.{trees_at, IsOpFault}
 use Rattle.clvm_tree.specs.declared.Node.{Node}
 use Rattle.clvm_tree.specs.declared.operators.OpFault.{OpFault}
-use Rattle.clvm_ops.specs.OperandAtoms.{bytes_of, atoms_at, is_short, HaveAtoms, HaveNumbers}
+use Rattle.clvm_spec.specs.Numbers.{is_short}
+use Rattle.clvm_ops.specs.OperandAtoms.{bytes_of, atoms_at, HaveAtoms, HaveNumbers}
 use Rattle.clvm_ops.proofs.Answered.{fault_same}
 
 pub number_read : (place : ℕ) (tree : Tree) (bytes : List ℕ) (go : List ℕ → Applied) → tree ≡ Atom bytes → length bytes ≤ 16 → number_at place tree go ≡ go bytes
-number_read place tree bytes go e short = ap (λ t. number_at place t go) e ∙ cond-false _ TooWide (go bytes) (le-ltb 16 (length bytes) short)
+number_read place tree bytes go e short = ap (λ t. number_at place t go) e ∙ cond-true _ (go bytes) TooWide (le-leb (length bytes) 16 short)
 
 pub first_atom_bad : (trees operands : List Tree) (a b : Tree) (f : OpFault) → operands ≡ a ∷ b ∷ [] → ((go : List ℕ → Applied) → IsOpFault trees (Enough (atom_at 0 a go)) f)
     → (go : List ℕ → List ℕ → Applied) → IsOpFault trees (Enough (two_atoms operands go)) f

@@ -20,11 +20,11 @@ shift_held cost size n by result fair is =
     cond-true _ (shifted_number cost size (shifted n by)) (Fails WrongShift) fair ∙ sym (shifted_or_wide-if_fits cost size (shifted n by)) ∙ ap (shifted_or_wide cost size) (sym is)
 
 pub shift_of_number_is : (operands : List Tree) (x y : List ℕ) (n by : ℤ) (result : Option ℤ) → ((go : List ℕ → List ℕ → Applied) → two_numbers operands go ≡ go x y) → n ≡ number x → by ≡ number y
-    → is_shift by ≡ true → result ≡ if_fits (shifted n by) → shift_of_number operands ≡ shifted_or_wide 596 (length x) result
+    → is_shift by ≡ true → result ≡ if_fits (shifted n by) → shift_of_number 596 operands ≡ shifted_or_wide 596 (length x) result
 shift_of_number_is operands x y n by result read first second fair is =
     read (λ a by. shift 596 (length a) (number a) (number by)) ∙ ap₂ (shift 596 (length x)) (sym first) (sym second) ∙ shift_held 596 (length x) n by result fair is
 
 pub shift_of_bits_is : (operands : List Tree) (x y : List ℕ) (n : ℕ) (by : ℤ) (result : Option ℤ) → ((go : List ℕ → List ℕ → Applied) → two_numbers operands go ≡ go x y) → n ≡ unsigned x → by ≡ number y
-    → is_shift by ≡ true → result ≡ if_fits (shifted (pos n) by) → shift_of_bits operands ≡ shifted_or_wide 277 (length x) result
+    → is_shift by ≡ true → result ≡ if_fits (shifted (pos n) by) → shift_of_bits 277 operands ≡ shifted_or_wide 277 (length x) result
 shift_of_bits_is operands x y n by result read first second fair is =
     read (λ a by. shift 277 (length a) (pos (unsigned a)) (number by)) ∙ ap₂ (λ k b. shift 277 (length x) (pos k) b) (sym first) (sym second) ∙ shift_held 277 (length x) (pos n) by result fair is

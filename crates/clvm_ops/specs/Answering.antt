@@ -1,11 +1,10 @@
 -- What the body of an operator answers on nodes: what the operator gives of their trees within what is left of the fuel.
 -- This project's own.
-use Rattle.std.specs.Prelude.{◌≡◌, ℕ, ◌+◌, ◌*◌, ◌≤◌, ℤ, nat_abs, slice_range, if◌then◌else◌, Option, Some, None, Result, Ok, Err, List, length}
+use Rattle.std.specs.Prelude.{◌≡◌, ℕ, ◌+◌, ◌≤◌, ℤ, Option, Some, None, Result, Ok, Err, List, length}
 use Rattle.clvm_spec.specs.declared.fuel.Fuel.{Fuel}
 use Rattle.clvm_spec.specs.Tree.{Tree}
-use Rattle.clvm_spec.specs.Numbers.{shortest_atom}
 use Rattle.clvm_spec.specs.Outcomes.{Applied, Fails, TooWide, WrongOperand}
-use Rattle.clvm_spec.specs.Operators.{is_part, new_atom, new_number}
+use Rattle.clvm_spec.specs.Operators.{new_atom, new_number, new_shifted}
 use Rattle.clvm_spec.specs.OperatorTable.{within}
 use Rattle.clvm_tree.specs.Nodes.{Grows}
 use Rattle.clvm_tree.specs.Operators.{IsAnswer, IsOpFault}
@@ -37,11 +36,7 @@ number_or_wide cost (Some n) = new_number cost n
 -- the same of a shifted number
 abbrev pub shifted_or_wide : (cost size : ℕ) → Option ℤ → Applied
 shifted_or_wide cost size None = TooWide
-shifted_or_wide cost size (Some n) = new_number (cost + 3 * (size + length (shortest_atom n))) n
-
--- the bytes from a start to an end, where the atom has them
-abbrev pub part : List ℕ → (start end : ℤ) → Applied
-part bytes start end = if is_part start end (length bytes) then new_atom 1 (slice_range bytes (nat_abs start) (nat_abs end)) else Fails (WrongOperand 1)
+shifted_or_wide cost size (Some n) = new_shifted cost size n
 
 -- what `substr` gives of a part, where the atom has it
 abbrev pub part_given : Option (List ℕ) → Applied

@@ -1,9 +1,10 @@
 -- What is calculated of any count of numbers from the left, where 128 bits hold each partial result. This project's own.
-use Rattle.std.specs.Prelude.{ℕ, ◌+◌, ◌*◌, ◌/◌, ℤ, pos, negsuc, ◌-ℤ◌, ◌*ℤ◌, Option, Some, None, List, [], ◌∷◌, length, map, if◌then◌else◌}
+use Rattle.std.specs.Prelude.{ℕ, ◌+◌, ℤ, pos, negsuc, ◌-ℤ◌, ◌*ℤ◌, Option, Some, None, List, [], ◌∷◌, length, map, if◌then◌else◌}
 use Rattle.std.specs.Int.{w128, int_bit_and, int_bit_or, int_bit_xor}
 use Rattle.clvm_spec.specs.Tree.{Tree}
 use Rattle.clvm_spec.specs.Numbers.{number, shortest_atom}
 use Rattle.clvm_spec.specs.Arithmetic.{fits_128}
+use Rattle.clvm_spec.specs.Operators.{factor_cost}
 use Rattle.clvm_tree.specs.declared.Node.{Node}
 use Rattle.clvm_ops.specs.OperandAtoms.{atoms_at}
 use Rattle.clvm_ops.specs.declared.folds.Product.{Product}
@@ -21,10 +22,6 @@ held_from_left step so_far (n ∷ ns) = if fits_128 (step so_far n) then held_fr
 abbrev pub held_difference : List ℤ → Option ℤ
 held_difference [] = Some (pos 0)
 held_difference (n ∷ ns) = held_from_left ◌-ℤ◌ n ns
-
--- what a factor of this size costs beside a product of that size
-abbrev pub factor_cost : (size other : ℕ) → ℕ
-factor_cost size other = 885 + 6 * (size + other) + size * other / 128
 
 -- the product so far, of this size and at this cost, times these
 abbrev pub held_times : (cost size : ℕ) → ℤ → List (List ℕ) → Option Product

@@ -1,7 +1,8 @@
 -- The atoms of the operands, as the operators read them. This project's own.
-use Rattle.std.specs.Prelude.{◌≡◌, ℕ, ◌*◌, ◌^◌, ◌≤◌, Bool, true, List, [], length, map, nat_le}
+use Rattle.std.specs.Prelude.{◌≡◌, ℕ, ◌*◌, ◌^◌, ◌≤◌, true, List, [], length, map}
 use Rattle.std.specs.List.{All}
 use Rattle.clvm_spec.specs.Tree.{Tree, Atom, Pair}
+use Rattle.clvm_spec.specs.Numbers.{is_short}
 use Rattle.clvm_spec.specs.Outcomes.{Applied}
 use Rattle.clvm_spec.specs.Operators.{atoms, numbers, lengths}
 use Rattle.clvm_tree.specs.Operators.{trees_at}
@@ -14,10 +15,6 @@ bytes_of (Pair first rest) = []
 
 abbrev pub atoms_at : List Tree → List Node → List (List ℕ)
 atoms_at trees nodes = map bytes_of (trees_at trees nodes)
-
--- at most 16 bytes
-abbrev pub is_short : List ℕ → Bool
-is_short bytes = nat_le (length bytes) 16
 
 -- The operands are all atoms, of so many bytes in all.
 pub record HaveAtoms (trees : List Tree) (operands : List Node) (size : ℕ) : Type 0 where

@@ -10,10 +10,9 @@ ghost use Rattle.clvm_tree.specs.Operators.{trees_at};
 ghost use Rattle.clvm_ops.specs.Answering.{Answers};
 
 use crate::arithmetic::remainder_of;
-use crate::folds::number_length;
 use crate::give::charged;
 use crate::operands::two_numbers;
-use clvm_spec::arithmetic;
+use clvm_spec::{arithmetic, number_length};
 use clvm_tree::{Answer, Fuel, Node, OpFault, OutOfMemory, Trees, number};
 use std::alloc::Global;
 
@@ -25,7 +24,7 @@ pub(crate) fn quotient_and_remainder(
 ) -> Result<Answer, OpFault>
     requires known { AreKnown trees.old operands.now }
     requires fits { length trees.old + length operands.now + left.pairs + left.bytes < 2 ^ 31 }
-    ensures { Answers trees.old trees.new (length operands.now) left (quotient_and_remainder (trees_at trees.old operands.now)) result }
+    ensures { Answers trees.old trees.new (length operands.now) left (quotient_and_remainder 1116 (trees_at trees.old operands.now)) result }
 {
     let (first, second) = two_numbers(trees, operands)?;
     let cost = 1116 + 6 * (first.len() + second.len()) as u128;

@@ -2,13 +2,14 @@
 
 ghost use Rattle.std.specs.Prelude.{◌≡◌, ◌<◌, ◌≤◌, ◌^◌, ◌+ℤ◌, ◌-ℤ◌, true, length, fold, IfSome};
 ghost use Rattle.std.specs.List.{All};
-ghost use Rattle.clvm_spec.specs.Numbers.{number, shortest_atom};
+ghost use Rattle.clvm_spec.specs.Numbers.{number, shortest_atom, is_short};
+ghost use Rattle.clvm_spec.specs.Operators.{factor_cost};
 ghost use Rattle.clvm_tree.specs.Nodes.{tree_at, IsKnown, AreKnown};
-ghost use Rattle.clvm_ops.specs.OperandAtoms.{bytes_of, atoms_at, is_short};
-ghost use Rattle.clvm_ops.specs.Folds.{numbers_at, held_from_left, held_difference, factor_cost, held_times, held_product, bit_step, bit_none};
+ghost use Rattle.clvm_ops.specs.OperandAtoms.{bytes_of, atoms_at};
+ghost use Rattle.clvm_ops.specs.Folds.{numbers_at, held_from_left, held_difference, held_times, held_product, bit_step, bit_none};
 
 use crate::operands::bytes_of;
-use clvm_spec::shortest_bytes;
+use clvm_spec::number_length;
 use clvm_tree::{Node, Trees, number};
 
 // The number of an operand that was read as one.
@@ -108,14 +109,6 @@ impl BitStep {
         }
         bits
     }
-}
-
-/// How many bytes the shortest atom of a number has.
-pub(crate) fn number_length(number: i128) -> usize
-    ensures length { result ≡ length (shortest_atom number) }
-    ensures few { result ≤ 16 }
-{
-    shortest_bytes(&number.to_be_bytes()).len()
 }
 
 // What a factor costs, beside a product of that size.

@@ -8,7 +8,7 @@ ghost use Rattle.clvm_tree.specs.Nodes.{tree_at, IsKnown};
 ghost use Rattle.clvm_tree.specs.Operators.{IsOpFault};
 ghost use Rattle.clvm_ops.specs.Answering.{Answers, IsCharged, number_or_wide};
 
-use clvm_spec::shortest_bytes;
+use clvm_spec::number_length;
 use clvm_tree::{Answer, Fuel, Node, OpFault, Trees, Which};
 use std::alloc::Global;
 
@@ -107,9 +107,15 @@ pub(crate) fn give_number(
     requires cost { cost < 2 ^ 127 }
     ensures { (operands : ℕ) → Answers trees.old trees.new operands left (new_number cost number) result }
 {
+    let size = number_length(number);
     let bytes = number.to_be_bytes();
-    let atom = shortest_bytes(&bytes);
-    give_atom(alloc, trees, atom, cost + 10 * atom.len() as u128, left)
+    give_atom(
+        alloc,
+        trees,
+        &bytes[16 - size..],
+        cost + 10 * size as u128,
+        left,
+    )
 }
 
 /// The same of a number that 128 bits may not hold.

@@ -22,7 +22,7 @@ pub(crate) fn equal_flag(
     left: Fuel,
 ) -> Result<Answer, OpFault>
     requires { AreKnown trees.now operands.now }
-    ensures { Answers trees.now trees.now (length operands.now) left (equal_flag (trees_at trees.now operands.now)) result }
+    ensures { Answers trees.now trees.now (length operands.now) left (equal_flag 117 (trees_at trees.now operands.now)) result }
 {
     let (first, second) = two_atoms(trees, operands)?;
     let size = first.len() as u128 + second.len() as u128;
@@ -36,7 +36,7 @@ pub(crate) fn bytes_greater_flag(
     left: Fuel,
 ) -> Result<Answer, OpFault>
     requires { AreKnown trees.now operands.now }
-    ensures { Answers trees.now trees.now (length operands.now) left (bytes_greater_flag (trees_at trees.now operands.now)) result }
+    ensures { Answers trees.now trees.now (length operands.now) left (bytes_greater_flag 117 (trees_at trees.now operands.now)) result }
 {
     let (first, second) = two_atoms(trees, operands)?;
     let size = first.len() as u128 + second.len() as u128;
@@ -51,7 +51,7 @@ pub(crate) fn length_of(
 ) -> Result<Answer, OpFault>
     requires known { AreKnown trees.old operands.now }
     requires fits { length trees.old + length operands.now + left.pairs + left.bytes < 2 ^ 31 }
-    ensures { Answers trees.old trees.new (length operands.now) left (length_of (trees_at trees.old operands.now)) result }
+    ensures { Answers trees.old trees.new (length operands.now) left (length_of 173 (trees_at trees.old operands.now)) result }
 {
     let [atom] = operands else {
         return Err(OpFault::Count);
@@ -76,7 +76,7 @@ pub(crate) fn hash_of(
 ) -> Result<Answer, OpFault>
     requires known { AreKnown trees.old operands.now }
     requires fits { length trees.old + length operands.now + left.pairs + left.bytes < 2 ^ 31 }
-    ensures { Answers trees.old trees.new (length operands.now) left (hash_of (trees_at trees.old operands.now)) result }
+    ensures { Answers trees.old trees.new (length operands.now) left (hash_of 407 (trees_at trees.old operands.now)) result }
 {
     let size = atoms(trees, operands)?;
     let cost = 407 + 134 * operands.len() as u128 + 2 * size;
@@ -105,7 +105,7 @@ pub(crate) fn concat_of(
 ) -> Result<Answer, OpFault>
     requires known { AreKnown trees.old operands.now }
     requires fits { length trees.old + length operands.now + left.pairs + left.bytes < 2 ^ 31 }
-    ensures { Answers trees.old trees.new (length operands.now) left (concat_of (trees_at trees.old operands.now)) result }
+    ensures { Answers trees.old trees.new (length operands.now) left (concat_of 142 (trees_at trees.old operands.now)) result }
 {
     let size = atoms(trees, operands)?;
     let cost = 142 + 135 * operands.len() as u128 + 13 * size;

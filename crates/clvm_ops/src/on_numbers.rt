@@ -23,7 +23,7 @@ pub(crate) fn sum_of(
 ) -> Result<Answer, OpFault>
     requires known { AreKnown trees.old operands.now }
     requires fits { length trees.old + length operands.now + left.pairs + left.bytes < 2 ^ 31 }
-    ensures { Answers trees.old trees.new (length operands.now) left (sum_of (trees_at trees.old operands.now)) result }
+    ensures { Answers trees.old trees.new (length operands.now) left (sum_of 99 (trees_at trees.old operands.now)) result }
 {
     let size = numbers(trees, operands)?;
     let cost = 99 + 320 * operands.len() as u128 + 3 * size;
@@ -39,7 +39,7 @@ pub(crate) fn difference_of(
 ) -> Result<Answer, OpFault>
     requires known { AreKnown trees.old operands.now }
     requires fits { length trees.old + length operands.now + left.pairs + left.bytes < 2 ^ 31 }
-    ensures { Answers trees.old trees.new (length operands.now) left (difference_of (trees_at trees.old operands.now)) result }
+    ensures { Answers trees.old trees.new (length operands.now) left (difference_of 99 (trees_at trees.old operands.now)) result }
 {
     let size = numbers(trees, operands)?;
     let cost = 99 + 320 * operands.len() as u128 + 3 * size;
@@ -55,7 +55,7 @@ pub(crate) fn product_of(
 ) -> Result<Answer, OpFault>
     requires known { AreKnown trees.old operands.now }
     requires fits { length trees.old + length operands.now + left.pairs + left.bytes < 2 ^ 31 }
-    ensures { Answers trees.old trees.new (length operands.now) left (product_of (trees_at trees.old operands.now)) result }
+    ensures { Answers trees.old trees.new (length operands.now) left (product_of 92 (trees_at trees.old operands.now)) result }
 {
     numbers(trees, operands)?;
     match whole_product(trees, operands) {
@@ -72,7 +72,7 @@ pub(crate) fn quotient_of(
 ) -> Result<Answer, OpFault>
     requires known { AreKnown trees.old operands.now }
     requires fits { length trees.old + length operands.now + left.pairs + left.bytes < 2 ^ 31 }
-    ensures { Answers trees.old trees.new (length operands.now) left (quotient_of (trees_at trees.old operands.now)) result }
+    ensures { Answers trees.old trees.new (length operands.now) left (quotient_of 988 (trees_at trees.old operands.now)) result }
 {
     let (first, second) = two_numbers(trees, operands)?;
     let cost = 988 + 4 * (first.len() + second.len()) as u128;
@@ -91,7 +91,7 @@ pub(crate) fn greater_flag(
     left: Fuel,
 ) -> Result<Answer, OpFault>
     requires { AreKnown trees.now operands.now }
-    ensures { Answers trees.now trees.now (length operands.now) left (greater_flag (trees_at trees.now operands.now)) result }
+    ensures { Answers trees.now trees.now (length operands.now) left (greater_flag 498 (trees_at trees.now operands.now)) result }
 {
     let (first, second) = two_numbers(trees, operands)?;
     let cost = 498 + 2 * (first.len() + second.len()) as u128;
@@ -115,7 +115,7 @@ pub(crate) fn complement_of(
 ) -> Result<Answer, OpFault>
     requires known { AreKnown trees.old operands.now }
     requires fits { length trees.old + length operands.now + left.pairs + left.bytes < 2 ^ 31 }
-    ensures { Answers trees.old trees.new (length operands.now) left (complement_of (trees_at trees.old operands.now)) result }
+    ensures { Answers trees.old trees.new (length operands.now) left (complement_of 331 (trees_at trees.old operands.now)) result }
 {
     let [operand] = operands else {
         return Err(OpFault::Count);
@@ -142,7 +142,7 @@ pub(crate) fn and_of(
 ) -> Result<Answer, OpFault>
     requires known { AreKnown trees.old operands.now }
     requires fits { length trees.old + length operands.now + left.pairs + left.bytes < 2 ^ 31 }
-    ensures { Answers trees.old trees.new (length operands.now) left (and_of (trees_at trees.old operands.now)) result }
+    ensures { Answers trees.old trees.new (length operands.now) left (and_of 100 (trees_at trees.old operands.now)) result }
 {
     bits_of(alloc, trees, operands, BitStep::And, left)
 }
@@ -155,7 +155,7 @@ pub(crate) fn or_of(
 ) -> Result<Answer, OpFault>
     requires known { AreKnown trees.old operands.now }
     requires fits { length trees.old + length operands.now + left.pairs + left.bytes < 2 ^ 31 }
-    ensures { Answers trees.old trees.new (length operands.now) left (or_of (trees_at trees.old operands.now)) result }
+    ensures { Answers trees.old trees.new (length operands.now) left (or_of 100 (trees_at trees.old operands.now)) result }
 {
     bits_of(alloc, trees, operands, BitStep::Or, left)
 }
@@ -168,7 +168,7 @@ pub(crate) fn xor_of(
 ) -> Result<Answer, OpFault>
     requires known { AreKnown trees.old operands.now }
     requires fits { length trees.old + length operands.now + left.pairs + left.bytes < 2 ^ 31 }
-    ensures { Answers trees.old trees.new (length operands.now) left (xor_of (trees_at trees.old operands.now)) result }
+    ensures { Answers trees.old trees.new (length operands.now) left (xor_of 100 (trees_at trees.old operands.now)) result }
 {
     bits_of(alloc, trees, operands, BitStep::Xor, left)
 }
@@ -183,7 +183,7 @@ fn bits_of(
     requires known { AreKnown trees.old operands.now }
     requires fits { length trees.old + length operands.now + left.pairs + left.bytes < 2 ^ 31 }
     ensures { Answers trees.old trees.new (length operands.now) left
-        (bits_of (bit_step step) (bit_none step) (trees_at trees.old operands.now)) result }
+        (bits_of (bit_step step) (bit_none step) 100 (trees_at trees.old operands.now)) result }
 {
     let size = numbers(trees, operands)?;
     let cost = 100 + 264 * operands.len() as u128 + 3 * size;

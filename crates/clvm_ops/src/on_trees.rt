@@ -26,7 +26,7 @@ pub(crate) fn choice(
     left: Fuel,
 ) -> Result<Answer, OpFault>
     requires { AreKnown trees.now operands.now }
-    ensures { Answers trees.now trees.now (length operands.now) left (choice (trees_at trees.now operands.now)) result }
+    ensures { Answers trees.now trees.now (length operands.now) left (choice 33 (trees_at trees.now operands.now)) result }
 {
     let [test, yes, no] = operands else {
         return Err(OpFault::Count);
@@ -46,7 +46,7 @@ pub(crate) fn new_pair(
 ) -> Result<Answer, OpFault>
     requires known { AreKnown trees.old operands.now }
     requires fits { length trees.old + length operands.now + left.pairs + left.bytes < 2 ^ 31 }
-    ensures { Answers trees.old trees.new (length operands.now) left (new_pair (trees_at trees.old operands.now)) result }
+    ensures { Answers trees.old trees.new (length operands.now) left (new_pair 50 (trees_at trees.old operands.now)) result }
 {
     let [first, rest] = operands else {
         return Err(OpFault::Count);
@@ -62,7 +62,7 @@ pub(crate) fn first_of(
     left: Fuel,
 ) -> Result<Answer, OpFault>
     requires { AreKnown trees.now operands.now }
-    ensures { Answers trees.now trees.now (length operands.now) left (first_of (trees_at trees.now operands.now)) result }
+    ensures { Answers trees.now trees.now (length operands.now) left (first_of 30 (trees_at trees.now operands.now)) result }
 {
     let [pair] = operands else {
         return Err(OpFault::Count);
@@ -80,7 +80,7 @@ pub(crate) fn rest_of(
     left: Fuel,
 ) -> Result<Answer, OpFault>
     requires { AreKnown trees.now operands.now }
-    ensures { Answers trees.now trees.now (length operands.now) left (rest_of (trees_at trees.now operands.now)) result }
+    ensures { Answers trees.now trees.now (length operands.now) left (rest_of 30 (trees_at trees.now operands.now)) result }
 {
     let [pair] = operands else {
         return Err(OpFault::Count);
@@ -98,7 +98,7 @@ pub(crate) fn pair_flag(
     left: Fuel,
 ) -> Result<Answer, OpFault>
     requires { AreKnown trees.now operands.now }
-    ensures { Answers trees.now trees.now (length operands.now) left (pair_flag (trees_at trees.now operands.now)) result }
+    ensures { Answers trees.now trees.now (length operands.now) left (pair_flag 19 (trees_at trees.now operands.now)) result }
 {
     let [operand] = operands else {
         return Err(OpFault::Count);
@@ -123,7 +123,7 @@ pub(crate) fn raised(
 ) -> Result<Answer, OpFault>
     requires known { AreKnown trees.old operands.now }
     requires fits { length trees.old + length operands.now + left.pairs + left.bytes < 2 ^ 31 }
-    ensures { Answers trees.old trees.new (length operands.now) left (raised (trees_at trees.old operands.now)) result }
+    ensures { Answers trees.old trees.new (length operands.now) left (raised 0 (trees_at trees.old operands.now)) result }
 {
     let list = list_of(alloc, trees, operands)?;
     Err(OpFault::Raised(list))

@@ -2,10 +2,10 @@
 
 ghost use Rattle.std.specs.Prelude.{◌≡◌, ℕ, ◌+◌, ◌<◌, ◌^◌, [], ◌∷◌, length};
 ghost use Rattle.std.specs.Option.{option_copied};
-ghost use Rattle.clvm_spec.specs.Operators.{part_of};
+ghost use Rattle.clvm_spec.specs.Operators.{part, part_of};
 ghost use Rattle.clvm_tree.specs.Nodes.{tree_at, IsKnown, AreKnown};
 ghost use Rattle.clvm_tree.specs.Operators.{trees_at};
-ghost use Rattle.clvm_ops.specs.Answering.{Answers, part, part_given};
+ghost use Rattle.clvm_ops.specs.Answering.{Answers, part_given};
 ghost use Rattle.clvm_ops.specs.OperandAtoms.{bytes_of};
 
 use crate::give::charged;
@@ -21,7 +21,7 @@ pub(crate) fn part_of(
 ) -> Result<Answer, OpFault>
     requires known { AreKnown trees.old operands.now }
     requires fits { length trees.old + length operands.now + left.pairs + left.bytes < 2 ^ 31 }
-    ensures { Answers trees.old trees.new (length operands.now) left (part_of (trees_at trees.old operands.now)) result }
+    ensures { Answers trees.old trees.new (length operands.now) left (part_of 1 (trees_at trees.old operands.now)) result }
 {
     match operands {
         [atom, start] => part_from(alloc, trees, *atom, *start, left),
@@ -42,7 +42,7 @@ fn part_from(
     requires start_known { IsKnown trees.old start.0 }
     requires fits { length trees.old + left.pairs + left.bytes < 2 ^ 31 }
     ensures { (operands : ℕ) → Answers trees.old trees.new operands left
-        (part_of (tree_at trees.old atom.0 ∷ tree_at trees.old start.0 ∷ [])) result }
+        (part_of 1 (tree_at trees.old atom.0 ∷ tree_at trees.old start.0 ∷ [])) result }
 {
     let size = atom_at(trees, 0, atom)?.len();
     let start = number(number_at(trees, 1, start)?);
@@ -63,7 +63,7 @@ fn part_between(
     requires end_known { IsKnown trees.old end.0 }
     requires fits { length trees.old + left.pairs + left.bytes < 2 ^ 31 }
     ensures { (operands : ℕ) → Answers trees.old trees.new operands left
-        (part_of (tree_at trees.old atom.0 ∷ tree_at trees.old start.0 ∷ tree_at trees.old end.0 ∷ [])) result }
+        (part_of 1 (tree_at trees.old atom.0 ∷ tree_at trees.old start.0 ∷ tree_at trees.old end.0 ∷ [])) result }
 {
     atom_at(trees, 0, atom)?;
     let start = number(number_at(trees, 1, start)?);
@@ -82,7 +82,7 @@ fn give_part(
 ) -> Result<Answer, OpFault>
     requires known { IsKnown trees.old atom.0 }
     requires fits { length trees.old + left.pairs + left.bytes < 2 ^ 31 }
-    ensures { (operands : ℕ) → Answers trees.old trees.new operands left (part (bytes_of (tree_at trees.old atom.0)) start end) result }
+    ensures { (operands : ℕ) → Answers trees.old trees.new operands left (part 1 (bytes_of (tree_at trees.old atom.0)) start end) result }
 {
     let bytes = bytes_of(trees, atom);
     let Some(bytes) = part_within(bytes, start, end) else {
@@ -95,7 +95,7 @@ fn give_part(
 
 // The bytes from a start to an end, where 0 <= start <= end <= length.
 fn part_within(bytes: &[u8], start: i128, end: i128) -> Option<&[u8]>
-    ensures { part bytes.now start end ≡ part_given (option_copied result) }
+    ensures { part 1 bytes.now start end ≡ part_given (option_copied result) }
 {
     if 0 <= start && start <= end && end <= bytes.len() as i128 {
         Some(&bytes[start as usize..end as usize])

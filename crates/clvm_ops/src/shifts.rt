@@ -7,10 +7,10 @@ ghost use Rattle.clvm_tree.specs.Operators.{trees_at};
 ghost use Rattle.clvm_ops.specs.Answering.{Answers, shifted_or_wide};
 
 use crate::arithmetic::{bits_shifted, shifted};
-use crate::folds::number_length;
 use crate::give::give_number;
 use crate::operands::two_numbers;
 use clvm_spec::arithmetic::is_shift_amount;
+use clvm_spec::number_length;
 use clvm_tree::{Answer, Fuel, Node, OpFault, Trees, number, unsigned};
 use std::alloc::Global;
 
@@ -22,7 +22,7 @@ pub(crate) fn shift_of_number(
 ) -> Result<Answer, OpFault>
     requires known { AreKnown trees.old operands.now }
     requires fits { length trees.old + length operands.now + left.pairs + left.bytes < 2 ^ 31 }
-    ensures { Answers trees.old trees.new (length operands.now) left (shift_of_number (trees_at trees.old operands.now)) result }
+    ensures { Answers trees.old trees.new (length operands.now) left (shift_of_number 596 (trees_at trees.old operands.now)) result }
 {
     let (value, by) = two_numbers(trees, operands)?;
     let size = value.len();
@@ -42,7 +42,7 @@ pub(crate) fn shift_of_bits(
 ) -> Result<Answer, OpFault>
     requires known { AreKnown trees.old operands.now }
     requires fits { length trees.old + length operands.now + left.pairs + left.bytes < 2 ^ 31 }
-    ensures { Answers trees.old trees.new (length operands.now) left (shift_of_bits (trees_at trees.old operands.now)) result }
+    ensures { Answers trees.old trees.new (length operands.now) left (shift_of_bits 277 (trees_at trees.old operands.now)) result }
 {
     let (value, by) = two_numbers(trees, operands)?;
     let size = value.len();

@@ -19,7 +19,7 @@ pub(crate) fn nil_flag(
     left: Fuel,
 ) -> Result<Answer, OpFault>
     requires { AreKnown trees.now operands.now }
-    ensures { Answers trees.now trees.now (length operands.now) left (nil_flag (trees_at trees.now operands.now)) result }
+    ensures { Answers trees.now trees.now (length operands.now) left (nil_flag 200 (trees_at trees.now operands.now)) result }
 {
     let [operand] = operands else {
         return Err(OpFault::Count);
@@ -34,7 +34,7 @@ pub(crate) fn any_flag(
     left: Fuel,
 ) -> Result<Answer, OpFault>
     requires { AreKnown trees.now operands.now }
-    ensures { Answers trees.now trees.now (length operands.now) left (any_flag (trees_at trees.now operands.now)) result }
+    ensures { Answers trees.now trees.now (length operands.now) left (any_flag 200 (trees_at trees.now operands.now)) result }
 {
     give_flag(
         trees,
@@ -51,7 +51,7 @@ pub(crate) fn all_flag(
     left: Fuel,
 ) -> Result<Answer, OpFault>
     requires { AreKnown trees.now operands.now }
-    ensures { Answers trees.now trees.now (length operands.now) left (all_flag (trees_at trees.now operands.now)) result }
+    ensures { Answers trees.now trees.now (length operands.now) left (all_flag 200 (trees_at trees.now operands.now)) result }
 {
     give_flag(
         trees,

@@ -19,7 +19,7 @@ use Rattle.clvm_spec.specs.Numbers.{number, unsigned, shortest_atom}
 use Rattle.clvm_spec.specs.Arithmetic.{fits_128}
 use Rattle.clvm_spec.specs.OperatorTable.{Operator, operators, operator_of, operator_named}
 use Rattle.clvm_spec.specs.Tokens.{Token, Literal, Symbol, Took, is_word_byte, without_minus, is_number, number_token, hex_literal, word_token}
-use Rattle.clvm_spec.specs.Text.{is_short_number, atom_text, name_or_text, head_text, Parses, code_of, InList, form_at, unnamed_token}
+use Rattle.clvm_spec.specs.Text.{is_short_number, atom_text, name_or_text, head_text, Names, named, Parses, InList, form_at}
 
 -- the text is a word whose token is that of the atom
 pub record IsWordOf (atom text : List ℕ) : Type 0 where
@@ -27,11 +27,10 @@ pub record IsWordOf (atom text : List ℕ) : Type 0 where
   pub some : 0 < length text
   pub token : Token
   pub token_is : word_token text ≡ Ok token
-  pub form : (list : InList) (depth : ℕ) (from rest : List ℕ) → form_at list depth (Took token from rest) ≡ Parses (Atom atom) rest
-  pub named : (place : ℕ) (later : Option ℕ) → unnamed_token token place later ≡ later
+  pub form : (list : InList) (depth : ℕ) (from rest : List ℕ) → form_at list depth (Took token from rest) ≡ Parses (Names (Atom atom)) rest
 
 literal_word : (atom text : List ℕ) → list_all is_word_byte text ≡ true → 0 < length text → word_token text ≡ Ok (Literal atom) → IsWordOf atom text
-literal_word atom text w s e = record { word = w; some = s; token = Literal atom; token_is = e; form = λ list depth from rest. refl; named = λ place later. refl }
+literal_word atom text w s e = record { word = w; some = s; token = Literal atom; token_is = e; form = λ list depth from rest. refl }
 
 -- ---- hexadecimal
 
@@ -216,9 +215,6 @@ operator_name : (code : ℕ) (row : Operator) → operator_of code ≡ Some row 
 unfolding operator_of
 operator_name code row e = found_name code operators row names_are_words e
 
-unnamed_no : (name : List ℕ) (row : Operator) → operator_named name ≡ Some row → (place : ℕ) (later : Option ℕ) → unnamed_token (Symbol name) place later ≡ later
-unnamed_no name row e place later = rw e refl
-
 name_word : (code : ℕ) (row : Operator) → operator_of code ≡ Some row → IsWordOf (code ∷ []) row.name
 name_word code row e =
     let h = operator_name code row e in
@@ -227,8 +223,7 @@ name_word code row e =
       some = h.0.1;
       token = Symbol row.name;
       token_is = h.0.2;
-      form = λ list depth from rest. ap (λ o. Parses (code_of o) rest) h.0.3 ∙ ap (λ c. Parses (Atom (c ∷ [])) rest) h.1;
-      named = unnamed_no row.name row h.0.3;
+      form = λ list depth from rest. ap (λ o. Parses (named from o) rest) h.0.3 ∙ ap (λ c. Parses (Names (Atom (c ∷ []))) rest) h.1;
     }
 
 by_name : (code : ℕ) (found : Option Operator) → AllBelowBase 256 (code ∷ []) → operator_of code ≡ found → IsWordOf (code ∷ []) (name_or_text found (code ∷ []))

@@ -9,6 +9,7 @@ pub mod PrefixLaws
 pub mod SpelledLaws
 pub mod FaultLaws
 pub mod ShortestLaws
+pub mod LengthLaws
 pub mod WholeLaws
 pub mod Cases
 mod EvaluationRows
@@ -16,6 +17,7 @@ mod OperatorRows
 mod TextRows
 pub mod Steady
 pub mod Steps
+pub mod Columns
 pub mod OperatorCosts
 pub mod Floor
 pub mod RemainderLaws

@@ -1,15 +1,16 @@
 -- What scanning makes of what printing wrote.
-use Rattle.std.proofs.Common.{◌≡◌, ℕ, zero, suc, ◌+◌, ◌-◌, ◌<◌, ◌==◌, Bool, true, false, not, cond, ◌&&◌, ◌||◌, nat_lt, List, [], ◌∷◌, ◌++◌, length, take, drop, Option, None, Ok, refl, sym, ◌∙◌, ap, subst, arith, append_assoc}
+use Rattle.std.proofs.Common.{◌≡◌, ℕ, zero, suc, ◌+◌, ◌-◌, ◌<◌, ◌==◌, Bool, true, false, not, cond, ◌&&◌, ◌||◌, nat_lt, List, [], ◌∷◌, ◌++◌, length, take, drop, None, Ok, refl, sym, ◌∙◌, ap, subst, arith, append_assoc}
 use Rattle.std.specs.List.{list_all, prefix_len}
 use Rattle.std.proofs.lemmas.List.{append-nil}
 use Rattle.std.proofs.lemmas.Bool.Decides.{nat_tests}
 use Rattle.std.proofs.Math.Seq.{take-append_seam}
 use Rattle.clvm_spec.specs.declared.scan_kind.ScanKind.TheVariants.{Deep, Byte}
 use Rattle.clvm_spec.specs.Tree.{Tree, Atom, Pair, nil}
-use Rattle.clvm_spec.specs.Tokens.{Token, Opening, Closing, Point, Literal, Symbol, Front, Took, Unread, AtEnd, is_separator, is_plain, is_mark, is_word_byte, word_token, without_blanks, word_front, word_at, quoted, at_word, at_quote, at_closing, at_front, token_of, place_of}
-use Rattle.clvm_spec.specs.Text.{atom_text, head_text, Position, AsHead, Alone, AsRest, text_at, printed, Parsed, Parses, Breaks, if_parsed, form_at, closed, behind_dot, with_rest, list_at, form_of, Scanned, Unreadable, at_last, whole, unnamed_token, unnamed_at, unnamed_within, end_of, unless_unnamed, scanned}
+use Rattle.clvm_spec.specs.Places.{place_of}
+use Rattle.clvm_spec.specs.Tokens.{Token, Opening, Closing, Point, Literal, Symbol, Front, Took, Unread, AtEnd, is_separator, is_plain, is_mark, is_word_byte, word_token, without_blanks, word_front, word_at, quoted, at_word, at_quote, at_closing, at_front, token_of}
+use Rattle.clvm_spec.specs.Text.{atom_text, head_text, Position, AsHead, Alone, AsRest, text_at, printed, Names, Parsed, Parses, Breaks, form_at, closed, last_form, behind, with_rest, list_at, form_of, at_last, whole, scanned}
 use Rattle.clvm_spec.specs.TextLaws.{list_from, nests_within, HasBytes, PrintedIsScanned, PrintedTooDeep}
-use Rattle.clvm_spec.proofs.ScanLaws.{list_step, form_is, names_law, none_left, token_takes}
+use Rattle.clvm_spec.proofs.ScanLaws.{list_step, form_is, none_left}
 use Rattle.clvm_spec.proofs.AtomTextLaws.{IsWordOf, atom_word, head_word}
 
 -- ---- words in a text
@@ -91,8 +92,8 @@ word_read atom (b ∷ word) rest w e = word_token_at b word rest w.token w.word 
 
 -- The text has so much room that the form is read, or it is too deep.
 abbrev pub Meets : Bool → Tree → List ℕ → Parsed → Type 0
-Meets true tree rest parsed = parsed ≡ Parses tree rest
-Meets false tree rest parsed = (from : List ℕ) × (parsed ≡ Breaks Deep from)
+Meets true tree rest parsed = parsed ≡ Parses (Names tree) rest
+Meets false tree rest parsed = (from : List ℕ) × (parsed ≡ Breaks Deep None from)
 
 meets_same : (fits : Bool) (tree : Tree) (rest : List ℕ) (a b : Parsed) → a ≡ b → Meets fits tree rest b → Meets fits tree rest a
 meets_same true tree rest a b e m = e ∙ m
@@ -136,9 +137,9 @@ form_in_list false tree more depth begun (Took Point from rest) m = let e = m.1 
 meets_pair : (a b : Bool) (first second : Tree) (more rest : List ℕ) (depth : ℕ) (begun : Bool) (text : List ℕ) →
     Meets a first more (form_at list_from depth (token_of text)) → Meets b second rest (list_from depth true more) → Meets (a && b) (Pair first second) rest (list_from depth begun text)
 meets_pair true true first second more rest depth begun text m n =
-    list_step depth begun text ∙ form_in_list true first more depth begun (token_of text) m ∙ ap (with_rest list_from depth) m ∙ ap (λ p. if_parsed p (λ trees more. Parses (Pair first trees) more)) n
+    list_step depth begun text ∙ form_in_list true first more depth begun (token_of text) m ∙ ap (with_rest list_from depth) m ∙ ap (behind (Names first)) n
 meets_pair true false first second more rest depth begun text m n =
-    (n.0, list_step depth begun text ∙ form_in_list true first more depth begun (token_of text) m ∙ ap (with_rest list_from depth) m ∙ ap (λ p. if_parsed p (λ trees more. Parses (Pair first trees) more)) n.1)
+    (n.0, list_step depth begun text ∙ form_in_list true first more depth begun (token_of text) m ∙ ap (with_rest list_from depth) m ∙ ap (behind (Names first)) n.1)
 meets_pair false b first second more rest depth begun text m n =
     (m.0, list_step depth begun text ∙ form_in_list false first more depth begun (token_of text) m ∙ ap (with_rest list_from depth) m.1)
 
@@ -148,17 +149,13 @@ opens : (fits : Bool) (tree : Tree) (depth room : ℕ) (text rest : List ℕ) �
 unfolding token_of
 opens fits tree depth zero text rest e m =
     let full : nat_lt depth 1024 ≡ false = grind (arith, nat_tests) in
-    (0x28 ∷ text, ap (λ t. cond t (list_from (suc depth) false text) (Breaks Deep (0x28 ∷ text))) full)
+    (0x28 ∷ text, ap (λ t. cond t (list_from (suc depth) false text) (Breaks Deep None (0x28 ∷ text))) full)
 opens fits tree depth (suc room) text rest e m =
     let within : nat_lt depth 1024 ≡ true = grind (arith, nat_tests) in
     let some : nat_lt 0 (suc room) ≡ true = grind (arith, nat_tests) in
     subst (λ t. Meets (t && fits) tree rest (form_at list_from depth (token_of (0x28 ∷ text)))) (sym some)
     (meets_same fits tree rest (form_at list_from depth (token_of (0x28 ∷ text))) (list_from (suc depth) false text)
-    (ap (λ t. cond t (list_from (suc depth) false text) (Breaks Deep (0x28 ∷ text))) within) (m (omega arith)))
-
-opening_token : (rest : List ℕ) → token_of (0x28 ∷ rest) ≡ Took Opening (0x28 ∷ rest) rest
-unfolding token_of
-opening_token rest = refl
+    (ap (λ t. cond t (list_from (suc depth) false text) (Breaks Deep None (0x28 ∷ text))) within) (m (omega arith)))
 
 closing_token : (rest : List ℕ) → token_of (0x29 ∷ rest) ≡ Took Closing (0x29 ∷ rest) rest
 unfolding token_of
@@ -173,19 +170,19 @@ unfolding token_of
 space_first rest = refl
 
 -- nil at the end of a list
-closes : (depth : ℕ) (begun : Bool) (rest : List ℕ) → list_from depth begun (0x29 ∷ rest) ≡ Parses nil rest
+closes : (depth : ℕ) (begun : Bool) (rest : List ℕ) → list_from depth begun (0x29 ∷ rest) ≡ Parses (Names nil) rest
 closes depth begun rest = list_step depth begun (0x29 ∷ rest) ∙ ap (list_at list_from depth begun) (closing_token rest)
 
 -- an atom behind a dot, at the end of a list
-ends_in : (atom text rest : List ℕ) (depth : ℕ) (w : IsWordOf atom text) → list_from depth true (0x20 ∷ 0x2e ∷ 0x20 ∷ (text ++ (0x29 ∷ rest))) ≡ Parses (Atom atom) rest
+ends_in : (atom text rest : List ℕ) (depth : ℕ) (w : IsWordOf atom text) → list_from depth true (0x20 ∷ 0x2e ∷ 0x20 ∷ (text ++ (0x29 ∷ rest))) ≡ Parses (Names (Atom atom)) rest
 ends_in atom text rest depth w =
     list_step depth true (0x20 ∷ 0x2e ∷ 0x20 ∷ (text ++ (0x29 ∷ rest)))
     ∙ ap (list_at list_from depth true) (dot_token (text ++ (0x29 ∷ rest)))
-    ∙ ap (λ p. behind_dot (0x2e ∷ 0x20 ∷ (text ++ (0x29 ∷ rest))) (if_parsed p (λ tree more. closed tree (token_of more))))
+    ∙ ap (last_form (0x2e ∷ 0x20 ∷ (text ++ (0x29 ∷ rest))))
     (ap (form_at list_from depth) (space_first (text ++ (0x29 ∷ rest)) ∙ word_read atom text (0x29 ∷ rest) w refl) ∙ w.form list_from depth (text ++ (0x29 ∷ rest)) (0x29 ∷ rest))
-    ∙ ap (λ front. behind_dot (0x2e ∷ 0x20 ∷ (text ++ (0x29 ∷ rest))) (closed (Atom atom) front)) (closing_token rest)
+    ∙ ap (closed (0x2e ∷ 0x20 ∷ (text ++ (0x29 ∷ rest))) (Names (Atom atom))) (closing_token rest)
 
-word_form : (atom text rest : List ℕ) (depth : ℕ) (w : IsWordOf atom text) → EndsWords rest → form_at list_from depth (token_of (text ++ rest)) ≡ Parses (Atom atom) rest
+word_form : (atom text rest : List ℕ) (depth : ℕ) (w : IsWordOf atom text) → EndsWords rest → form_at list_from depth (token_of (text ++ rest)) ≡ Parses (Names (Atom atom)) rest
 word_form atom text rest depth w e = ap (form_at list_from depth) (word_read atom text rest w e) ∙ w.form list_from depth (text ++ rest) rest
 
 nil_form : (depth room : ℕ) (rest : List ℕ) → depth + room ≡ 1024 → Meets (nat_lt 0 room) nil rest (form_at list_from depth (token_of (0x28 ∷ 0x29 ∷ rest)))
@@ -234,59 +231,6 @@ meets AsRest (Pair first second) depth room rest e h d =
     (meets_same (fits room Alone first) first (text_at AsRest second ++ rest) (form_at list_from depth (token_of (0x20 ∷ text))) (form_at list_from depth (token_of text)) (ap (form_at list_from depth) (space_first text))
     (meets Alone first depth room (text_at AsRest second ++ rest) e h.0 (ends_rest second rest)))
     (meets AsRest second depth room rest e h.1 d))
-
--- ---- names
-
--- the first unnamed symbol from here on
-abbrev names : List ℕ → ℕ → List ℕ → Option ℕ
-names text end rest = unnamed_within (length rest) text end rest
-
-none_if : (test : Bool) (found : Option ℕ) → found ≡ None → cond test found None ≡ None
-none_if true found e = e
-none_if false found e = refl
-
-module _ (text : List ℕ) (end : ℕ) where
-  named_token : (rest : List ℕ) (token : Token) (from more : List ℕ) → token_of rest ≡ Took token from more → ((place : ℕ) → unnamed_token token place None ≡ None) → names text end more ≡ None → names text end rest ≡ None
-  named_token rest token from more e n later =
-      let less = token_takes rest token from more e in
-      sym (names_law (suc (length rest)) text end rest (omega arith)) ∙ ap (unnamed_at (unnamed_within (length rest) text end) text end) e
-      ∙ ap (λ found. cond (nat_lt (place_of text from) end) (unnamed_token token (place_of text from) found) None) (names_law (length rest) text end more (omega (arith, less)) ∙ later)
-      ∙ none_if (nat_lt (place_of text from) end) (unnamed_token token (place_of text from) None) (n (place_of text from))
-
-  named_space : (rest : List ℕ) → names text end rest ≡ None → names text end (0x20 ∷ rest) ≡ None
-  named_space rest later = ap (unnamed_at (unnamed_within (length rest) text end) text end) (space_first rest) ∙ names_law (suc (length rest)) text end rest (omega arith) ∙ later
-
-  named_word : (atom word rest : List ℕ) (w : IsWordOf atom word) → EndsWords rest → names text end rest ≡ None → names text end (word ++ rest) ≡ None
-  named_word atom word rest w d later = named_token (word ++ rest) w.token (word ++ rest) rest (word_read atom word rest w d) (λ place. w.named place None) later
-
-  named_open : (rest : List ℕ) → names text end rest ≡ None → names text end (0x28 ∷ rest) ≡ None
-  named_open rest later = named_token (0x28 ∷ rest) Opening (0x28 ∷ rest) rest (opening_token rest) (λ place. refl) later
-
-  named_close : (rest : List ℕ) → names text end rest ≡ None → names text end (0x29 ∷ rest) ≡ None
-  named_close rest later = named_token (0x29 ∷ rest) Closing (0x29 ∷ rest) rest (closing_token rest) (λ place. refl) later
-
-  named_dot : (rest : List ℕ) → names text end (0x20 ∷ rest) ≡ None → names text end (0x20 ∷ 0x2e ∷ 0x20 ∷ rest) ≡ None
-  named_dot rest later = named_token (0x20 ∷ 0x2e ∷ 0x20 ∷ rest) Point (0x2e ∷ 0x20 ∷ rest) (0x20 ∷ rest) (dot_token rest) (λ place. refl) later
-
-  all_named : (position : Position) (tree : Tree) (rest : List ℕ) → HasBytes tree → EndsWords rest → names text end rest ≡ None → names text end (text_at position tree ++ rest) ≡ None
-  all_named AsHead (Atom []) rest h d later = named_open (0x29 ∷ rest) (named_close rest later)
-  all_named Alone (Atom []) rest h d later = named_open (0x29 ∷ rest) (named_close rest later)
-  all_named AsRest (Atom []) rest h d later = named_close rest later
-  all_named AsHead (Atom (b ∷ bytes)) rest h d later = named_word (b ∷ bytes) (head_text (b ∷ bytes)) rest (head_word b bytes h) d later
-  all_named Alone (Atom (b ∷ bytes)) rest h d later = named_word (b ∷ bytes) (atom_text (b ∷ bytes)) rest (atom_word b bytes h) d later
-  all_named AsRest (Atom (b ∷ bytes)) rest h d later =
-      subst (λ t. names text end (0x20 ∷ 0x2e ∷ 0x20 ∷ t) ≡ None) (sym (append_assoc (atom_text (b ∷ bytes)) (0x29 ∷ []) rest))
-      (named_dot (atom_text (b ∷ bytes) ++ (0x29 ∷ rest)) (named_space (atom_text (b ∷ bytes) ++ (0x29 ∷ rest))
-      (named_word (b ∷ bytes) (atom_text (b ∷ bytes)) (0x29 ∷ rest) (atom_word b bytes h) refl (named_close rest later))))
-  all_named AsHead (Pair first second) rest h d later =
-      subst (λ t. names text end (0x28 ∷ t) ≡ None) (sym (append_assoc (text_at AsHead first) (text_at AsRest second) rest))
-      (named_open (text_at AsHead first ++ (text_at AsRest second ++ rest)) (all_named AsHead first (text_at AsRest second ++ rest) h.0 (ends_rest second rest) (all_named AsRest second rest h.1 d later)))
-  all_named Alone (Pair first second) rest h d later =
-      subst (λ t. names text end (0x28 ∷ t) ≡ None) (sym (append_assoc (text_at AsHead first) (text_at AsRest second) rest))
-      (named_open (text_at AsHead first ++ (text_at AsRest second ++ rest)) (all_named AsHead first (text_at AsRest second ++ rest) h.0 (ends_rest second rest) (all_named AsRest second rest h.1 d later)))
-  all_named AsRest (Pair first second) rest h d later =
-      subst (λ t. names text end (0x20 ∷ t) ≡ None) (sym (append_assoc (text_at Alone first) (text_at AsRest second) rest))
-      (named_space (text_at Alone first ++ (text_at AsRest second ++ rest)) (all_named Alone first (text_at AsRest second ++ rest) h.0 (ends_rest second rest) (all_named AsRest second rest h.1 d later)))
 
 -- ---- nesting
 
@@ -356,32 +300,22 @@ printed_fits tree h = ap (nests_within 1024) (sym (append-nil (printed tree))) �
     and_true true = refl
     and_true false = refl
 
-printed_names : (tree : Tree) (end : ℕ) → HasBytes tree → names (printed tree) end (printed tree) ≡ None
-printed_names tree end h =
-    subst (λ t. names (printed tree) end t ≡ None) (append-nil (printed tree)) (all_named (printed tree) end Alone tree [] h tt refl)
-
 printed_form : (tree : Tree) → HasBytes tree → Meets (nests_within 1024 (printed tree)) tree [] (form_of (printed tree))
 printed_form tree h =
     subst (λ t. Meets t tree [] (form_of (printed tree))) (sym (printed_fits tree h))
     (meets_same (fits 1024 Alone tree) tree [] (form_of (printed tree)) (form_at list_from 0 (token_of (printed tree))) (form_is (length (printed tree)) (printed tree) (omega arith))
     (subst (λ t. Meets (fits 1024 Alone tree) tree [] (form_at list_from 0 (token_of t))) (append-nil (printed tree)) (meets Alone tree 0 1024 [] (omega arith) h tt)))
 
-abbrev told : List ℕ → Parsed → Scanned
-told text parsed = let found = whole text parsed in unless_unnamed (unnamed_within (length text) text (end_of text found) text) found
-
-scanned_is : (text : List ℕ) → scanned text ≡ told text (form_of text)
+scanned_is : (text : List ℕ) → scanned text ≡ whole text (form_of text)
 unfolding scanned
 scanned_is text = refl
 
-told_named : (tree : Tree) (found : Scanned) → HasBytes tree → unless_unnamed (unnamed_within (length (printed tree)) (printed tree) (end_of (printed tree) found) (printed tree)) found ≡ found
-told_named tree found h = ap (λ n. unless_unnamed n found) (printed_names tree (end_of (printed tree) found) h)
-
 pub printed_is_scanned : PrintedIsScanned
 printed_is_scanned tree h e =
-    scanned_is (printed tree) ∙ ap (told (printed tree)) (subst (λ t. Meets t tree [] (form_of (printed tree))) e (printed_form tree h))
-    ∙ told_named tree (at_last (printed tree) tree (token_of [])) h ∙ ap (at_last (printed tree) tree) none_left
+    scanned_is (printed tree) ∙ ap (whole (printed tree)) (subst (λ t. Meets t tree [] (form_of (printed tree))) e (printed_form tree h))
+    ∙ ap (at_last (printed tree) tree) none_left
 
 pub printed_too_deep : PrintedTooDeep
 printed_too_deep tree h e =
     let deep = subst (λ t. Meets t tree [] (form_of (printed tree))) e (printed_form tree h) in
-    (place_of (printed tree) deep.0, scanned_is (printed tree) ∙ ap (told (printed tree)) deep.1 ∙ told_named tree (Unreadable Deep (place_of (printed tree) deep.0)) h)
+    (place_of (printed tree) deep.0, scanned_is (printed tree) ∙ ap (whole (printed tree)) deep.1)

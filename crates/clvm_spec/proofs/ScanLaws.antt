@@ -1,14 +1,14 @@
 -- Tokens take bytes, so what bounds scanning is no part of it.
-use Rattle.std.proofs.Common.{◌≡◌, ℕ, zero, suc, ◌+◌, ◌<◌, ◌≤◌, ◌==◌, Bool, true, false, not, cond, ◌||◌, nat_lt, List, [], ◌∷◌, length, take, drop, Option, None, Result, Ok, Err, refl, sym, ◌∙◌, ap, subst, arith}
+use Rattle.std.proofs.Common.{◌≡◌, ℕ, zero, suc, ◌+◌, ◌<◌, ◌≤◌, ◌==◌, Bool, true, false, not, cond, ◌||◌, nat_lt, List, [], ◌∷◌, length, take, drop, None, Result, Ok, Err, refl, sym, ◌∙◌, ap, subst, arith}
 use Rattle.std.specs.List.{prefix_len}
 use Rattle.std.proofs.lemmas.List.{length-drop}
 use Rattle.clvm_spec.specs.declared.scan_kind.ScanKind.{ScanKind}
 use Rattle.clvm_spec.specs.declared.scan_kind.ScanKind.TheVariants.{End, Close, Dot, Deep, Text, Byte, Hex, Number}
-use Rattle.clvm_spec.specs.Tree.{Tree, Atom, Pair}
 use Rattle.clvm_spec.specs.OperatorTable.{operator_named}
-use Rattle.clvm_spec.specs.Tokens.{Token, Opening, Closing, Point, Literal, Symbol, Front, Took, Unread, AtEnd, is_separator, is_plain, is_word_byte, without_blanks, word_token, word_front, word_at, quoted_of, quoted, at_word, at_quote, at_closing, at_front, token_of, place_of}
-use Rattle.clvm_spec.specs.Text.{Parsed, Parses, Breaks, if_parsed, code_of, InList, opened, form_at, closed, fault_behind_dot, behind_dot, last_form, with_rest, list_at, list_within, unnamed_at, unnamed_within, unnamed_token}
-use Rattle.clvm_spec.specs.TextLaws.{list_from, FormsAreWithinTheText, NamesAreWithinTheText, ListIsItsStep}
+use Rattle.clvm_spec.specs.Tree.{Atom}
+use Rattle.clvm_spec.specs.Tokens.{Token, Opening, Closing, Point, Literal, Symbol, Front, Took, Unread, AtEnd, is_separator, is_plain, is_word_byte, without_blanks, word_token, word_front, word_at, quoted_of, quoted, at_word, at_quote, at_closing, at_front, token_of}
+use Rattle.clvm_spec.specs.Text.{Named, Names, Unknown, named, Parsed, Parses, Breaks, InList, opened, form_at, closed, last_form, behind, with_rest, list_at, list_within}
+use Rattle.clvm_spec.specs.TextLaws.{list_from, FormsAreWithinTheText, ListIsItsStep}
 
 -- ---- tokens take bytes
 
@@ -105,8 +105,8 @@ token_takes text token from rest e =
 -- ---- what is parsed takes bytes
 
 abbrev pub Shrinks : ℕ → Parsed → Type 0
-Shrinks n (Parses tree rest) = length rest < n
-Shrinks n (Breaks kind from) = Unit {0}
+Shrinks n (Parses form rest) = length rest < n
+Shrinks n (Breaks kind unknown from) = Unit {0}
 
 -- what stands behind the token is shorter than that
 abbrev pub Less : ℕ → Front → Type 0
@@ -120,8 +120,8 @@ less_front text n (Unread kind from) e h = tt
 less_front text n AtEnd e h = tt
 
 shrinks_more : (m n : ℕ) (parsed : Parsed) → m ≤ n → Shrinks m parsed → Shrinks n parsed
-shrinks_more m n (Parses tree rest) le h = omega (arith, le, h)
-shrinks_more m n (Breaks kind from) le h = tt
+shrinks_more m n (Parses form rest) le h = omega (arith, le, h)
+shrinks_more m n (Breaks kind unknown from) le h = tt
 
 abbrev AllShrink : InList → Type 0
 AllShrink list = (depth : ℕ) (begun : Bool) (text : List ℕ) → Shrinks (length text) (list depth begun text)
@@ -132,16 +132,17 @@ shrinks_if n false f g hf hg = hg
 
 shrinks_opened : (list : InList) (n depth : ℕ) (from rest : List ℕ) → AllShrink list → length rest < n → Shrinks n (opened list depth from rest)
 shrinks_opened list n depth from rest all h =
-    shrinks_if n (nat_lt depth 1024) (list (suc depth) false rest) (Breaks Deep from) (shrinks_more (length rest) n (list (suc depth) false rest) (omega (arith, h)) (all (suc depth) false rest)) tt
+    shrinks_if n (nat_lt depth 1024) (list (suc depth) false rest) (Breaks Deep None from) (shrinks_more (length rest) n (list (suc depth) false rest) (omega (arith, h)) (all (suc depth) false rest)) tt
 
-shrinks_tree : (n : ℕ) (tree : Tree) (parsed : Parsed) → Shrinks n parsed → Shrinks n (if_parsed parsed (λ trees more. Parses (Pair tree trees) more))
-shrinks_tree n tree (Parses trees rest) h = h
-shrinks_tree n tree (Breaks kind from) h = tt
+shrinks_behind : (n : ℕ) (form : Named) (parsed : Parsed) → Shrinks n parsed → Shrinks n (behind form parsed)
+shrinks_behind n form (Parses forms rest) h = h
+shrinks_behind n (Names tree) (Breaks kind unknown from) h = tt
+shrinks_behind n (Unknown name) (Breaks kind unknown from) h = tt
 
 shrinks_rest : (list : InList) (n depth : ℕ) (first : Parsed) → AllShrink list → Shrinks n first → Shrinks n (with_rest list depth first)
-shrinks_rest list n depth (Parses tree rest) all h =
-    shrinks_tree n tree (list depth true rest) (shrinks_more (length rest) n (list depth true rest) (omega (arith, h)) (all depth true rest))
-shrinks_rest list n depth (Breaks kind from) all h = tt
+shrinks_rest list n depth (Parses form rest) all h =
+    shrinks_behind n form (list depth true rest) (shrinks_more (length rest) n (list depth true rest) (omega (arith, h)) (all depth true rest))
+shrinks_rest list n depth (Breaks kind unknown from) all h = tt
 
 shrinks_form : (list : InList) (n depth : ℕ) (front : Front) → AllShrink list → Less n front → Shrinks n (form_at list depth front)
 shrinks_form list n depth AtEnd all h = tt
@@ -152,44 +153,34 @@ shrinks_form list n depth (Took (Literal bytes) from rest) all h = h
 shrinks_form list n depth (Took (Symbol name) from rest) all h = h
 shrinks_form list n depth (Took Opening from rest) all h = shrinks_opened list n depth from rest all h
 
-shrinks_closed : (n : ℕ) (tree : Tree) (front : Front) → Less n front → Shrinks n (closed tree front)
-shrinks_closed n tree AtEnd h = tt
-shrinks_closed n tree (Unread kind from) h = tt
-shrinks_closed n tree (Took Closing from rest) h = h
-shrinks_closed n tree (Took Point from rest) h = tt
-shrinks_closed n tree (Took (Literal bytes) from rest) h = tt
-shrinks_closed n tree (Took (Symbol name) from rest) h = tt
-shrinks_closed n tree (Took Opening from rest) h = tt
+shrinks_closed : (n : ℕ) (dot : List ℕ) (form : Named) (front : Front) → Less n front → Shrinks n (closed dot form front)
+shrinks_closed n dot form AtEnd h = tt
+shrinks_closed n dot form (Unread kind from) h = tt
+shrinks_closed n dot form (Took Closing from rest) h = h
+shrinks_closed n dot form (Took Point from rest) h = tt
+shrinks_closed n dot form (Took (Literal bytes) from rest) h = tt
+shrinks_closed n dot form (Took (Symbol name) from rest) h = tt
+shrinks_closed n dot form (Took Opening from rest) h = tt
 
-fault_shrinks : (n : ℕ) (dot : List ℕ) (kind : ScanKind) (from : List ℕ) → Shrinks n (fault_behind_dot dot kind from)
-fault_shrinks n dot End from = tt
-fault_shrinks n dot Close from = tt
-fault_shrinks n dot Dot from = tt
-fault_shrinks n dot Hex from = tt
-fault_shrinks n dot Number from = tt
-fault_shrinks n dot Text from = tt
-fault_shrinks n dot Byte from = tt
-fault_shrinks n dot Deep from = tt
-
-shrinks_dot : (n : ℕ) (dot : List ℕ) (parsed : Parsed) → Shrinks n parsed → Shrinks n (behind_dot dot parsed)
-shrinks_dot n dot (Parses tree rest) h = h
-shrinks_dot n dot (Breaks kind from) h = fault_shrinks n dot kind from
-
-shrinks_then : (n : ℕ) (parsed : Parsed) → Shrinks n parsed → Shrinks n (if_parsed parsed (λ tree more. closed tree (token_of more)))
-shrinks_then n (Parses tree rest) h = shrinks_closed n tree (token_of rest) (less_front rest n (token_of rest) refl (omega (arith, h)))
-shrinks_then n (Breaks kind from) h = tt
-
-shrinks_last : (list : InList) (n depth : ℕ) (rest : List ℕ) → AllShrink list → length rest < n → Shrinks n (last_form list depth rest)
-shrinks_last list n depth rest all h =
-    shrinks_then n (form_at list depth (token_of rest)) (shrinks_form list n depth (token_of rest) all (less_front rest n (token_of rest) refl (omega (arith, h))))
+shrinks_last : (n : ℕ) (dot : List ℕ) (parsed : Parsed) → Shrinks n parsed → Shrinks n (last_form dot parsed)
+shrinks_last n dot (Parses form rest) h = shrinks_closed n dot form (token_of rest) (less_front rest n (token_of rest) refl (omega (arith, h)))
+shrinks_last n dot (Breaks End unknown from) h = tt
+shrinks_last n dot (Breaks Close unknown from) h = tt
+shrinks_last n dot (Breaks Dot unknown from) h = tt
+shrinks_last n dot (Breaks Hex unknown from) h = tt
+shrinks_last n dot (Breaks Number unknown from) h = tt
+shrinks_last n dot (Breaks Text unknown from) h = tt
+shrinks_last n dot (Breaks Byte unknown from) h = tt
+shrinks_last n dot (Breaks Deep unknown from) h = tt
 
 shrinks_list : (list : InList) (n depth : ℕ) (begun : Bool) (front : Front) → AllShrink list → Less n front → Shrinks n (list_at list depth begun front)
 shrinks_list list n depth begun (Took Closing from rest) all h = h
-shrinks_list list n depth true (Took Point from rest) all h = shrinks_dot n from (last_form list depth rest) (shrinks_last list n depth rest all h)
+shrinks_list list n depth true (Took Point from rest) all h =
+    shrinks_last n from (form_at list depth (token_of rest)) (shrinks_form list n depth (token_of rest) all (less_front rest n (token_of rest) refl (omega (arith, h))))
 shrinks_list list n depth false (Took Point from rest) all h = tt
 shrinks_list list n depth begun (Took Opening from rest) all h = shrinks_rest list n depth (opened list depth from rest) all (shrinks_opened list n depth from rest all h)
-shrinks_list list n depth begun (Took (Literal bytes) from rest) all h = shrinks_rest list n depth (Parses (Atom bytes) rest) all h
-shrinks_list list n depth begun (Took (Symbol name) from rest) all h = shrinks_rest list n depth (Parses (code_of (operator_named name)) rest) all h
+shrinks_list list n depth begun (Took (Literal bytes) from rest) all h = shrinks_rest list n depth (Parses (Names (Atom bytes)) rest) all h
+shrinks_list list n depth begun (Took (Symbol name) from rest) all h = shrinks_rest list n depth (Parses (named from (operator_named name)) rest) all h
 shrinks_list list n depth begun (Unread kind from) all h = tt
 shrinks_list list n depth begun AtEnd all h = tt
 
@@ -205,11 +196,11 @@ AgreeBelow n a b = (depth : ℕ) (begun : Bool) (text : List ℕ) → length tex
 
 module _ (n : ℕ) (a b : InList) (same : AgreeBelow n a b) (all : AllShrink b) where
   same_opened : (depth : ℕ) (from rest : List ℕ) → length rest < n → opened a depth from rest ≡ opened b depth from rest
-  same_opened depth from rest h = ap (λ p. cond (nat_lt depth 1024) p (Breaks Deep from)) (same (suc depth) false rest h)
+  same_opened depth from rest h = ap (λ p. cond (nat_lt depth 1024) p (Breaks Deep None from)) (same (suc depth) false rest h)
 
   same_rest : (depth : ℕ) (first : Parsed) → Shrinks n first → with_rest a depth first ≡ with_rest b depth first
-  same_rest depth (Parses tree rest) h = ap (λ p. if_parsed p (λ trees more. Parses (Pair tree trees) more)) (same depth true rest h)
-  same_rest depth (Breaks kind from) h = refl
+  same_rest depth (Parses form rest) h = ap (behind form) (same depth true rest h)
+  same_rest depth (Breaks kind unknown from) h = refl
 
   same_form : (depth : ℕ) (front : Front) → Less n front → form_at a depth front ≡ form_at b depth front
   same_form depth AtEnd h = refl
@@ -220,16 +211,13 @@ module _ (n : ℕ) (a b : InList) (same : AgreeBelow n a b) (all : AllShrink b) 
   same_form depth (Took (Symbol name) from rest) h = refl
   same_form depth (Took Opening from rest) h = same_opened depth from rest h
 
-  same_last : (depth : ℕ) (rest : List ℕ) → length rest < n → last_form a depth rest ≡ last_form b depth rest
-  same_last depth rest h = ap (λ p. if_parsed p (λ tree more. closed tree (token_of more))) (same_form depth (token_of rest) (less_front rest n (token_of rest) refl (omega (arith, h))))
-
   same_list : (depth : ℕ) (begun : Bool) (front : Front) → Less n front → list_at a depth begun front ≡ list_at b depth begun front
   same_list depth begun (Took Closing from rest) h = refl
-  same_list depth true (Took Point from rest) h = ap (behind_dot from) (same_last depth rest h)
+  same_list depth true (Took Point from rest) h = ap (last_form from) (same_form depth (token_of rest) (less_front rest n (token_of rest) refl (omega (arith, h))))
   same_list depth false (Took Point from rest) h = refl
   same_list depth begun (Took Opening from rest) h = ap (with_rest a depth) (same_opened depth from rest h) ∙ same_rest depth (opened b depth from rest) (shrinks_opened b n depth from rest all h)
-  same_list depth begun (Took (Literal bytes) from rest) h = same_rest depth (Parses (Atom bytes) rest) h
-  same_list depth begun (Took (Symbol name) from rest) h = same_rest depth (Parses (code_of (operator_named name)) rest) h
+  same_list depth begun (Took (Literal bytes) from rest) h = same_rest depth (Parses (Names (Atom bytes)) rest) h
+  same_list depth begun (Took (Symbol name) from rest) h = same_rest depth (Parses (named from (operator_named name)) rest) h
   same_list depth begun (Unread kind from) h = refl
   same_list depth begun AtEnd h = refl
 
@@ -258,26 +246,6 @@ form_is bound text h =
 pub forms_law : FormsAreWithinTheText
 forms_law bound text h = form_is bound text h ∙ sym (form_is (length text) text (omega arith))
 
--- ---- names
-
-same_name_if : (text : List ℕ) (end n : ℕ) (f g : List ℕ → Option ℕ) (front : Front) → ((rest : List ℕ) → length rest < n → f rest ≡ g rest) → Less n front → unnamed_at f text end front ≡ unnamed_at g text end front
-same_name_if text end n f g AtEnd same h = refl
-same_name_if text end n f g (Unread kind from) same h = refl
-same_name_if text end n f g (Took token from rest) same h = ap (λ later. cond (nat_lt (place_of text from) end) (unnamed_token token (place_of text from) later) None) (same rest h)
-
 pub none_left : token_of [] ≡ AtEnd
 unfolding token_of
 none_left = refl
-
-same_names : (c d : ℕ) (text : List ℕ) (end : ℕ) (rest : List ℕ) → length rest ≤ c → length rest ≤ d → unnamed_within c text end rest ≡ unnamed_within d text end rest
-same_names zero zero text end rest lc ld = refl
-same_names zero (suc d) text end [] lc ld = sym (ap (unnamed_at (unnamed_within d text end) text end) none_left)
-same_names zero (suc d) text end (b ∷ rest) lc ld = absurd (omega arith)
-same_names (suc c) zero text end [] lc ld = ap (unnamed_at (unnamed_within c text end) text end) none_left
-same_names (suc c) zero text end (b ∷ rest) lc ld = absurd (omega arith)
-same_names (suc c) (suc d) text end rest lc ld =
-    same_name_if text end (length rest) (unnamed_within c text end) (unnamed_within d text end) (token_of rest)
-    (λ more less. same_names c d text end more (omega (arith, less, lc)) (omega (arith, less, ld))) (less_front rest (length rest) (token_of rest) refl (omega arith))
-
-pub names_law : NamesAreWithinTheText
-names_law bound text end rest h = same_names bound (length rest) text end rest h (omega arith)

@@ -47,19 +47,19 @@ high_first-push : (k n : ℕ) → bytes_high_first (suc k) n ≡ bytes_high_firs
 high_first-push zero n = refl
 high_first-push (suc k) n = ap (λ b. b ∷ bytes_high_first (suc k) n) (byte_at-next k n) ∙ ap (λ bs. byte_at k (n / 256) ∷ bs) (high_first-push k n)
 
-unsigned-high_first : (k n : ℕ) → n < 256 ^ k → unsigned (bytes_high_first k n) ≡ n
+pub unsigned-high_first : (k n : ℕ) → n < 256 ^ k → unsigned (bytes_high_first k n) ≡ n
 unsigned-high_first zero n h = omega (arith, h)
 unsigned-high_first (suc k) n h =
     let less : n / 256 < 256 ^ k = div_below n 256 (256 ^ k) (omega arith) (omega (arith, h, pow-suc 256 k)) in
     ap unsigned (high_first-push k n) ∙ number_push 256 (bytes_high_first k (n / 256)) (n % 256)
     ∙ ap (λ q. q * 256 + n % 256) (unsigned-high_first k (n / 256) less) ∙ div-add-mod' n 256
 
-below_high_first : (k n : ℕ) → AllBelowBase 256 (bytes_high_first k n)
+pub below_high_first : (k n : ℕ) → AllBelowBase 256 (bytes_high_first k n)
 below_high_first zero n = tt
 below_high_first (suc zero) n = (omega arith, tt)
 below_high_first (suc (suc k)) n = (omega arith, below_high_first (suc k) n)
 
-length-high_first : (k n : ℕ) → length (bytes_high_first k n) ≡ k
+pub length-high_first : (k n : ℕ) → length (bytes_high_first k n) ≡ k
 length-high_first zero n = refl
 length-high_first (suc k) n = ap suc (length-high_first k n)
 
@@ -82,11 +82,11 @@ unsigned-turned (x ∷ xs) h =
 
 -- ---- the sign
 
-number_low : (xs : List ℕ) → get_or xs 0 0 < 128 → number xs ≡ pos (unsigned xs)
+pub number_low : (xs : List ℕ) → get_or xs 0 0 < 128 → number xs ≡ pos (unsigned xs)
 number_low [] h = refl
 number_low (x ∷ xs) h = ap (λ t. cond t (pos (unsigned (x ∷ xs))) (negsuc (unsigned (map (λ b. 255 - b) (x ∷ xs))))) (lt-ltb x 128 h)
 
-number_high : (xs : List ℕ) → 1 ≤ length xs → 128 ≤ get_or xs 0 0 → number xs ≡ negsuc (unsigned (map (λ b. 255 - b) xs))
+pub number_high : (xs : List ℕ) → 1 ≤ length xs → 128 ≤ get_or xs 0 0 → number xs ≡ negsuc (unsigned (map (λ b. 255 - b) xs))
 number_high [] some h = absurd (omega arith)
 number_high (x ∷ xs) some h = ap (λ t. cond t (pos (unsigned (x ∷ xs))) (negsuc (unsigned (map (λ b. 255 - b) (x ∷ xs))))) (le-ltb x 128 h)
 

@@ -156,8 +156,14 @@ more_texts :
     × unnamed "(foo . 0x5)" 1
     × unreadable "(1 . (foo" Dot 3
     × left_over "1 foo" 2
+    × unnamed "((1 . foo) 0x5)" 6
+    × unreadable "(1 . (foo . 0x5))" Dot 3
+    × unreadable "((1 . foo 2) 5)" Dot 4
+    × unnamed "(foo (1 . ))" 1
+    × unnamed "((5 foo) . (bar" 4
+    × unnamed "(1 . foo) 0x5" 5
 unfolding encode_with digits without_sign_bytes shortest_atom operator_of operator_named token_of word_token scanned head_at tree_at_front
-more_texts = (refl, refl, refl, refl, refl, refl, refl, refl, refl)
+more_texts = (refl, refl, refl, refl, refl, refl, refl, refl, refl, refl, refl, refl, refl, refl, refl)
 
 -- 1,024 lists in one another are read, and one more is too deep, also behind a dot.
 opening : ℕ → List ℕ → List ℕ
@@ -179,10 +185,12 @@ depths :
     × (scanned (opening 1024 (codes "foo")) ≡ Unnamed 1024)
     × (scanned (printed (nested 1023)) ≡ Scans (nested 1023))
     × (scanned (printed (nested 1024)) ≡ Unreadable Deep 1024)
+    × (scanned (opening 1022 (codes "(1 . (foo ())")) ≡ Unnamed 1028)
+    × (scanned (opening 1022 (codes "(1 . (+ ())")) ≡ Unreadable Deep 1030)
     × (scanned (0x61 ∷ 0x7f ∷ []) ≡ Unreadable Byte 1)
     × (scanned (0x01 ∷ []) ≡ Unreadable Byte 0)
 unfolding encode_with digits without_sign_bytes shortest_atom operator_of operator_named token_of word_token scanned head_at tree_at_front opening closing nested
-depths = (refl, refl, refl, refl, refl, refl, refl, refl)
+depths = (refl, refl, refl, refl, refl, refl, refl, refl, refl, refl)
 
 -- No more parentheses are open at once than so many.
 nestings :

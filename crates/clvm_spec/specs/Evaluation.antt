@@ -7,7 +7,7 @@ use Rattle.clvm_spec.specs.Tree.{Tree, Atom, Pair}
 use Rattle.clvm_spec.specs.ProperList.{elements}
 use Rattle.clvm_spec.specs.Path.{PathValue, Reached, Astray, path_value, path_cost}
 use Rattle.clvm_spec.specs.Outcomes.{NoStep, NotAList, WrongCount, NoOperator, Gives, Fails, TooWide, WithinFuel, Enough, Lacks, Outcome, Done, Failed, Spent, Wide}
-use Rattle.clvm_spec.specs.OperatorTable.{operator_outcome}
+use Rattle.clvm_spec.specs.OperatorTable.{quote_cost, apply_cost, operator_outcome}
 
 -- goes on from where a part is done
 abbrev pub if_done : Outcome → (Tree → Fuel → Outcome) → Outcome
@@ -25,6 +25,11 @@ is_byte code [] = false
 is_byte code (b ∷ []) = b == code
 is_byte code (b ∷ c ∷ more) = false
 
+-- the atom of this one byte
+abbrev pub is_code : ℕ → Tree → Bool
+is_code code (Atom bytes) = is_byte code bytes
+is_code code (Pair first rest) = false
+
 -- An atom is a path. A step's failure comes before its lack of cost.
 abbrev pub at_path : List ℕ → PathValue → Fuel → Outcome
 at_path path (Reached value steps) left = charge (path_cost path steps) left (Done value)
@@ -38,7 +43,7 @@ Evaluator = Tree → Tree → ℕ → Fuel → Outcome
 abbrev pub goes_on : Evaluator → Tree → ℕ → List Tree → Fuel → Outcome
 goes_on evaluate form depth [] left = Failed WrongCount form
 goes_on evaluate form depth (program ∷ []) left = Failed WrongCount form
-goes_on evaluate form depth (program ∷ env ∷ []) left = charge 90 left (evaluate program env depth)
+goes_on evaluate form depth (program ∷ env ∷ []) left = charge apply_cost left (evaluate program env depth)
 goes_on evaluate form depth (program ∷ env ∷ c ∷ more) left = Failed WrongCount form
 
 -- A value takes its cost, pairs and bytes from what is left; a fault is the form's.
@@ -58,7 +63,7 @@ values_of value [] left go = go [] left
 values_of value (operand ∷ operands) left go =
     values_of value operands left (λ values after. if_done (value operand after) (λ v last. go (v ∷ values) last))
 
--- Operands stand one deeper than their form, which can't be at the limit.
+-- Operands stand one deeper than their form, so a form with operands can't be at the limit.
 abbrev pub deeper : List Tree → ℕ → Fuel → (Fuel → Outcome) → Outcome
 deeper [] depth left go = go left
 deeper (operand ∷ operands) depth left go = if nat_lt depth left.depth then go left else Spent Depth
@@ -73,7 +78,7 @@ operator_form evaluate code form env depth (Some operands) left =
 -- A pair whose first is the one byte 1 has its rest as its value.
 abbrev pub atom_form : Evaluator → List ℕ → Tree → Tree → ℕ → Fuel → Outcome
 atom_form evaluate code rest env depth left =
-    if is_byte 1 code then charge 20 left (Done rest) else operator_form evaluate code (Pair (Atom code) rest) env depth (elements rest) left
+    if is_byte 1 code then charge quote_cost left (Done rest) else operator_form evaluate code (Pair (Atom code) rest) env depth (elements rest) left
 
 -- one step of evaluation: a path, a form with a pair as its head, or one with an atom
 abbrev pub evaluated_by : Evaluator → Evaluator
@@ -97,3 +102,7 @@ run_outcome program env fuel = evaluation program env 0 fuel
 -- what a done run has cost
 abbrev pub run_cost : Fuel → Fuel → ℕ
 run_cost fuel left = fuel.cost - left.cost
+
+-- the fuel of every run, but its cost
+abbrev pub fuel_of : ℕ → Fuel
+fuel_of cost = record { cost = cost; pairs = 16_777_216; bytes = 134_217_728; depth = 1_048_576 }

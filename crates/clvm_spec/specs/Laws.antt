@@ -1,5 +1,5 @@
--- The laws of spelling, reading, numbers and division, each over all trees, bytes and whole numbers. They hold of the definitions, and so of
--- each program whose contract is one of these.
+-- The laws of spelling, reading, numbers and division, each over all trees, bytes and whole numbers. They follow from the
+-- definitions, and so hold of each program whose contract is one of these.
 use Rattle.std.specs.Prelude.{◌≡◌, ℕ, ◌<◌, ◌≤◌, ◌↔◌, false, ℤ, pos, ◌+ℤ◌, ◌*ℤ◌, ◌<ℤ◌, ◌≤ℤ◌, FitsSigned, List, [], ◌++◌, length, Some}
 use Rattle.std.specs.Int.{w128}
 use Rattle.std.specs.List.{AllByRecursion}

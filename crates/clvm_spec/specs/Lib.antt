@@ -1,6 +1,8 @@
 pub mod Tree
 pub mod Spelling
+pub mod Places
 pub mod Reading
+pub mod Spelled
 pub mod Hashing
 pub mod Numbers
 pub mod TreeCode
@@ -15,5 +17,7 @@ pub mod OperatorTable
 pub mod Evaluation
 pub mod Tokens
 pub mod Text
+pub mod Lines
 pub mod FuelLaws
+pub mod ColumnLaws
 pub mod TextLaws

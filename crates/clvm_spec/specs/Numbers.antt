@@ -1,6 +1,6 @@
 -- The numbers of atoms: big-endian two's complement, with the empty atom for zero. Source: CLVM reference; that
 -- numbers are 128 bits wide is this project's own.
-use Rattle.std.specs.Prelude.{ℕ, ◌-◌, ◌==◌, ◌&&◌, ◌||◌, ℤ, pos, negsuc, Bool, false, List, [], ◌∷◌, map, nat_lt, nat_le, if◌then◌else◌}
+use Rattle.std.specs.Prelude.{ℕ, ◌-◌, ◌==◌, ◌&&◌, ◌||◌, ℤ, pos, negsuc, Bool, false, List, [], ◌∷◌, length, map, nat_lt, nat_le, if◌then◌else◌}
 use Rattle.std.specs.Int.{w128, to_be_bytes, cast_unsigned}
 use Rattle.std.specs.Int.Digits.{number_from_digits}
 
@@ -12,6 +12,10 @@ unsigned bytes = number_from_digits 256 bytes
 abbrev pub number : List ℕ → ℤ
 number [] = pos 0
 number (b ∷ bytes) = if nat_lt b 0x80 then pos (unsigned (b ∷ bytes)) else negsuc (unsigned (map (λ b. 255 - b) (b ∷ bytes)))
+
+-- whether an atom has no more than the 16 bytes of a number that operators take
+abbrev pub is_short : List ℕ → Bool
+is_short bytes = nat_le (length bytes) 16
 
 -- whether the first byte says no more than the sign of what follows it
 abbrev pub has_sign_byte : List ℕ → Bool

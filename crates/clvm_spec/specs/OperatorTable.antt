@@ -1,54 +1,81 @@
--- The 29 operators by code, with their names. Source: CLVM reference; which operators are left out is this project's own.
+-- The table of the 29 operators, by code. Source: CLVM reference; the costs, the order of cost, pairs and bytes, and which
+-- operators are left out, are this project's own.
 use Rattle.std.specs.Prelude.{ℕ, ◌==◌, List, [], ◌∷◌, Option, Some, None, find, bytes_eq, codes, nat_lt, if◌then◌else◌}
 use Rattle.clvm_spec.specs.declared.fuel.Fuel.{Fuel}
-use Rattle.clvm_spec.specs.declared.fuel.Which.TheVariants.{Cost, Pairs, Bytes}
+use Rattle.clvm_spec.specs.declared.fuel.Which.TheVariants as which
 use Rattle.clvm_spec.specs.Tree.{Tree}
 use Rattle.clvm_spec.specs.Outcomes.{NoOperator, Applied, Gives, Fails, TooWide, WithinFuel, Enough, Lacks}
 use Rattle.clvm_spec.specs.Operators.{choice, new_pair, first_of, rest_of, pair_flag, raised, equal_flag, bytes_greater_flag, hash_of, part_of, length_of, concat_of, sum_of, difference_of, product_of, quotient_of, quotient_and_remainder, greater_flag, shift_of_number, shift_of_bits, and_of, or_of, xor_of, complement_of, nil_flag, any_flag, all_flag}
 
+-- what each operand of an operator has to be
+pub data Operands : Type 0 where
+  Any : Operands
+  Pairs : Operands
+  Atoms : Operands
+  -- atoms of at most 16 bytes
+  Numbers : Operands
+  -- an atom as the first, numbers as the others
+  AtomAndNumbers : Operands
+
+-- What the least, the most, the kind and the cost say of what is applied is laid down as laws, in ColumnLaws.
 pub record Operator : Type 0 where
   pub code : ℕ
   pub name : List ℕ
+  -- how many operands it has at least
+  pub least : ℕ
+  -- how many it has at most, None for any count
+  pub most : Option ℕ
+  pub kind : Operands
+  -- what it costs whatever its operands are
+  pub cost : ℕ
   pub applied : List Tree → Applied
 
-abbrev pub operator : ℕ → List ℕ → (List Tree → Applied) → Operator
-operator code name applied = record { code = code; name = name; applied = applied }
+-- A row: its last column is the operator's equation, which is applied at the row's cost.
+abbrev pub operator : (code : ℕ) (name : List ℕ) (least : ℕ) (most : Option ℕ) (kind : Operands) (cost : ℕ) → (ℕ → List Tree → Applied) → Operator
+operator code name least most kind cost equation =
+    record { code = code; name = name; least = least; most = most; kind = kind; cost = cost; applied = equation cost }
 
--- `q` and `a` are no operators on values: evaluation treats them.
-abbrev pub by_evaluation : List Tree → Applied
-by_evaluation operands = Fails NoOperator
+-- `q` and `a` are no operators on values: evaluation treats them, at these costs.
+abbrev pub quote_cost : ℕ
+quote_cost = 20
+
+abbrev pub apply_cost : ℕ
+apply_cost = 90
+
+abbrev pub by_evaluation : ℕ → List Tree → Applied
+by_evaluation cost operands = Fails NoOperator
 
 abbrev pub operators : List Operator
 operators =
-    operator 1 (codes "q") by_evaluation
-    ∷ operator 2 (codes "a") by_evaluation
-    ∷ operator 3 (codes "i") choice
-    ∷ operator 4 (codes "c") new_pair
-    ∷ operator 5 (codes "f") first_of
-    ∷ operator 6 (codes "r") rest_of
-    ∷ operator 7 (codes "l") pair_flag
-    ∷ operator 8 (codes "x") raised
-    ∷ operator 9 (codes "=") equal_flag
-    ∷ operator 10 (codes ">s") bytes_greater_flag
-    ∷ operator 11 (codes "sha256") hash_of
-    ∷ operator 12 (codes "substr") part_of
-    ∷ operator 13 (codes "strlen") length_of
-    ∷ operator 14 (codes "concat") concat_of
-    ∷ operator 16 (codes "+") sum_of
-    ∷ operator 17 (codes "-") difference_of
-    ∷ operator 18 (codes "*") product_of
-    ∷ operator 19 (codes "/") quotient_of
-    ∷ operator 20 (codes "divmod") quotient_and_remainder
-    ∷ operator 21 (codes ">") greater_flag
-    ∷ operator 22 (codes "ash") shift_of_number
-    ∷ operator 23 (codes "lsh") shift_of_bits
-    ∷ operator 24 (codes "logand") and_of
-    ∷ operator 25 (codes "logior") or_of
-    ∷ operator 26 (codes "logxor") xor_of
-    ∷ operator 27 (codes "lognot") complement_of
-    ∷ operator 32 (codes "not") nil_flag
-    ∷ operator 33 (codes "any") any_flag
-    ∷ operator 34 (codes "all") all_flag
+    operator 1 (codes "q") 0 None Any quote_cost by_evaluation
+    ∷ operator 2 (codes "a") 2 (Some 2) Any apply_cost by_evaluation
+    ∷ operator 3 (codes "i") 3 (Some 3) Any 33 choice
+    ∷ operator 4 (codes "c") 2 (Some 2) Any 50 new_pair
+    ∷ operator 5 (codes "f") 1 (Some 1) Pairs 30 first_of
+    ∷ operator 6 (codes "r") 1 (Some 1) Pairs 30 rest_of
+    ∷ operator 7 (codes "l") 1 (Some 1) Any 19 pair_flag
+    ∷ operator 8 (codes "x") 0 None Any 0 raised
+    ∷ operator 9 (codes "=") 2 (Some 2) Atoms 117 equal_flag
+    ∷ operator 10 (codes ">s") 2 (Some 2) Atoms 117 bytes_greater_flag
+    ∷ operator 11 (codes "sha256") 0 None Atoms 407 hash_of
+    ∷ operator 12 (codes "substr") 2 (Some 3) AtomAndNumbers 1 part_of
+    ∷ operator 13 (codes "strlen") 1 (Some 1) Atoms 173 length_of
+    ∷ operator 14 (codes "concat") 0 None Atoms 142 concat_of
+    ∷ operator 16 (codes "+") 0 None Numbers 99 sum_of
+    ∷ operator 17 (codes "-") 0 None Numbers 99 difference_of
+    ∷ operator 18 (codes "*") 0 None Numbers 92 product_of
+    ∷ operator 19 (codes "/") 2 (Some 2) Numbers 988 quotient_of
+    ∷ operator 20 (codes "divmod") 2 (Some 2) Numbers 1116 quotient_and_remainder
+    ∷ operator 21 (codes ">") 2 (Some 2) Numbers 498 greater_flag
+    ∷ operator 22 (codes "ash") 2 (Some 2) Numbers 596 shift_of_number
+    ∷ operator 23 (codes "lsh") 2 (Some 2) Numbers 277 shift_of_bits
+    ∷ operator 24 (codes "logand") 0 None Numbers 100 and_of
+    ∷ operator 25 (codes "logior") 0 None Numbers 100 or_of
+    ∷ operator 26 (codes "logxor") 0 None Numbers 100 xor_of
+    ∷ operator 27 (codes "lognot") 1 (Some 1) Numbers 331 complement_of
+    ∷ operator 32 (codes "not") 1 (Some 1) Any 200 nil_flag
+    ∷ operator 33 (codes "any") 0 None Any 200 any_flag
+    ∷ operator 34 (codes "all") 0 None Any 200 all_flag
     ∷ []
 
 -- an operator by its code, and by its name
@@ -70,13 +97,13 @@ applied (code ∷ b ∷ more) operands = Fails NoOperator
 
 -- Where a value is there, the cost has to suffice, then the pairs, then the bytes. What is left is enough.
 abbrev pub within_bytes : Fuel → Tree → ℕ → ℕ → ℕ → WithinFuel
-within_bytes left value cost pairs bytes = if nat_lt left.bytes bytes then Lacks Bytes else Enough (Gives value cost pairs bytes)
+within_bytes left value cost pairs bytes = if nat_lt left.bytes bytes then Lacks which.Bytes else Enough (Gives value cost pairs bytes)
 
 abbrev pub within_pairs : Fuel → Tree → ℕ → ℕ → ℕ → WithinFuel
-within_pairs left value cost pairs bytes = if nat_lt left.pairs pairs then Lacks Pairs else within_bytes left value cost pairs bytes
+within_pairs left value cost pairs bytes = if nat_lt left.pairs pairs then Lacks which.Pairs else within_bytes left value cost pairs bytes
 
 abbrev pub within_cost : Fuel → Tree → ℕ → ℕ → ℕ → WithinFuel
-within_cost left value cost pairs bytes = if nat_lt left.cost cost then Lacks Cost else within_pairs left value cost pairs bytes
+within_cost left value cost pairs bytes = if nat_lt left.cost cost then Lacks which.Cost else within_pairs left value cost pairs bytes
 
 abbrev pub within : Fuel → Applied → WithinFuel
 within left (Gives value cost pairs bytes) = within_cost left value cost pairs bytes

@@ -1,14 +1,20 @@
 -- Each operator but `q` and `a`: what it gives of its operands, at which cost, with which new pairs and bytes, and its
--- faults in their order. Operands are read from the first to the last. Source: CLVM reference; the costs and
--- the order of faults as they stand here are this project's own.
-use Rattle.std.specs.Prelude.{ℕ, suc, ◌+◌, ◌*◌, ◌/◌, ℤ, pos, negsuc, ◌+ℤ◌, ◌-ℤ◌, ◌*ℤ◌, nat_abs, int_lt, int_le, Bool, true, false, not, ◌&&◌, List, [], ◌∷◌, length, get_or, drop, map, fold, sum_by, slice_range, bytes_eq, nat_lt, Option, Some, None, if◌then◌else◌}
+-- faults in their order. The first argument is what the operator costs whatever its operands are: the table has it.
+-- Source: CLVM reference; the costs, the counts of pairs and bytes, the 16 bytes of a number and the order of faults as
+-- they stand here are this project's own.
+--
+-- The order of faults: the count of operands; from the first operand to the last its kind, and the width of a number;
+-- what `x` raises, a zero divisor, a wrong shift, a part that isn't within its atom; a result, or a partial one from the
+-- left, that 128 bits don't hold. That there is no such operator comes before, and that the fuel doesn't suffice comes
+-- after all these.
+use Rattle.std.specs.Prelude.{ℕ, suc, ◌+◌, ◌*◌, ◌/◌, ℤ, pos, negsuc, ◌+ℤ◌, ◌-ℤ◌, ◌*ℤ◌, nat_abs, int_lt, int_le, Bool, true, false, not, ◌&&◌, List, [], ◌∷◌, length, get_or, drop, map, fold, sum_by, slice_range, bytes_eq, Option, Some, None, if◌then◌else◌}
 use Rattle.std.specs.List.{concat, list_any, list_all}
 use Rattle.std.specs.Ordering.{nat_cmp, is_gt}
 use Rattle.std.specs.Cmp.Lexicographic.{slice_cmp}
 use Rattle.std.specs.Int.{w128, int_bit_and, int_bit_or, int_bit_xor}
 use Rattle.sha2.specs.Sha256.{sha256}
 use Rattle.clvm_spec.specs.Tree.{Tree, Atom, Pair, nil, list_tree}
-use Rattle.clvm_spec.specs.Numbers.{unsigned, number, shortest_atom}
+use Rattle.clvm_spec.specs.Numbers.{unsigned, number, shortest_atom, is_short}
 use Rattle.clvm_spec.specs.Arithmetic.{fits_128, is_zero, quotient, remainder, is_shift, shifted}
 use Rattle.clvm_spec.specs.Outcomes.{WrongCount, WrongOperand, Raised, ZeroDivisor, WrongShift, Applied, Gives, Fails, TooWide}
 
@@ -51,7 +57,7 @@ atom_at place (Pair first rest) go = Fails (WrongOperand place)
 
 -- where a number is needed: an atom of at most 16 bytes
 abbrev pub if_short : List ℕ → (List ℕ → Applied) → Applied
-if_short bytes go = if nat_lt 16 (length bytes) then TooWide else go bytes
+if_short bytes go = if is_short bytes then go bytes else TooWide
 
 abbrev pub number_at : ℕ → Tree → (List ℕ → Applied) → Applied
 number_at place operand go = atom_at place operand (λ bytes. if_short bytes go)
@@ -120,63 +126,67 @@ lengths atoms = sum_by length atoms
 -- ---- trees
 
 -- i: the third operand where the first is nil, else the second
-abbrev pub choice : List Tree → Applied
-choice operands = three operands (λ test yes no. free (if is_nil test then no else yes) 33)
+abbrev pub choice : ℕ → List Tree → Applied
+choice cost operands = three operands (λ test yes no. free (if is_nil test then no else yes) cost)
 
 -- c
-abbrev pub new_pair : List Tree → Applied
-new_pair operands = two operands (λ first rest. Gives (Pair first rest) 50 1 0)
+abbrev pub new_pair : ℕ → List Tree → Applied
+new_pair cost operands = two operands (λ first rest. Gives (Pair first rest) cost 1 0)
 
 -- f
-abbrev pub first_of : List Tree → Applied
-first_of operands = one operands (λ operand. pair_at 0 operand (λ first rest. free first 30))
+abbrev pub first_of : ℕ → List Tree → Applied
+first_of cost operands = one operands (λ operand. pair_at 0 operand (λ first rest. free first cost))
 
 -- r
-abbrev pub rest_of : List Tree → Applied
-rest_of operands = one operands (λ operand. pair_at 0 operand (λ first rest. free rest 30))
+abbrev pub rest_of : ℕ → List Tree → Applied
+rest_of cost operands = one operands (λ operand. pair_at 0 operand (λ first rest. free rest cost))
 
 abbrev pub is_pair : Tree → Bool
 is_pair (Atom bytes) = false
 is_pair (Pair first rest) = true
 
 -- l: 1 for a pair, else nil
-abbrev pub pair_flag : List Tree → Applied
-pair_flag operands = one operands (λ operand. free (flag (is_pair operand)) 19)
+abbrev pub pair_flag : ℕ → List Tree → Applied
+pair_flag cost operands = one operands (λ operand. free (flag (is_pair operand)) cost)
 
 -- x: raises the list of its operands
-abbrev pub raised : List Tree → Applied
-raised operands = Fails (Raised (list_tree operands))
+abbrev pub raised : ℕ → List Tree → Applied
+raised cost operands = Fails (Raised (list_tree operands))
 
 -- ---- atoms
 
 -- =: 1 where the bytes are equal, else nil
-abbrev pub equal_flag : List Tree → Applied
-equal_flag operands = two_atoms operands (λ a b. free (flag (bytes_eq a b)) (117 + (length a + length b)))
+abbrev pub equal_flag : ℕ → List Tree → Applied
+equal_flag cost operands = two_atoms operands (λ a b. free (flag (bytes_eq a b)) (cost + (length a + length b)))
 
 -- >s: 1 where the first is larger by bytes, a proper prefix being smaller
-abbrev pub bytes_greater_flag : List Tree → Applied
-bytes_greater_flag operands = two_atoms operands (λ a b. free (flag (is_gt (slice_cmp nat_cmp a b))) (117 + (length a + length b)))
+abbrev pub bytes_greater_flag : ℕ → List Tree → Applied
+bytes_greater_flag cost operands = two_atoms operands (λ a b. free (flag (is_gt (slice_cmp nat_cmp a b))) (cost + (length a + length b)))
 
 -- sha256: the hash of their concatenation
-abbrev pub hash_of : List Tree → Applied
-hash_of operands = atoms operands (λ atoms. new_atom (87 + 134 * length atoms + 2 * lengths atoms + 320) (sha256 (concat atoms)))
+abbrev pub hash_of : ℕ → List Tree → Applied
+hash_of cost operands = atoms operands (λ atoms. new_atom (cost + 134 * length atoms + 2 * lengths atoms) (sha256 (concat atoms)))
 
 -- 0 <= start <= end <= length
 abbrev pub is_part : ℤ → ℤ → ℕ → Bool
 is_part start end length = int_le (pos 0) start && int_le start end && int_le end (pos length)
 
--- substr: the bytes from the start to the end; the end is the length by default
-abbrev pub part_of : List Tree → Applied
-part_of operands = two_or_three operands (λ a start end. atom_at 0 a (λ a. number_at 1 start (λ start. number_or (pos (length a)) 2 end (λ end.
-    if is_part (number start) end (length a) then new_atom 1 (slice_range a (nat_abs (number start)) (nat_abs end)) else Fails (WrongOperand 1)))))
+-- the bytes from a start to an end, where the atom has them
+abbrev pub part : ℕ → List ℕ → (start end : ℤ) → Applied
+part cost a start end = if is_part start end (length a) then new_atom cost (slice_range a (nat_abs start) (nat_abs end)) else Fails (WrongOperand 1)
+
+-- substr: that part; the end is the length by default
+abbrev pub part_of : ℕ → List Tree → Applied
+part_of cost operands = two_or_three operands (λ a start end. atom_at 0 a (λ a. number_at 1 start (λ start. number_or (pos (length a)) 2 end (λ end.
+    part cost a (number start) end))))
 
 -- strlen
-abbrev pub length_of : List Tree → Applied
-length_of operands = one operands (λ a. atom_at 0 a (λ a. new_number (173 + length a) (pos (length a))))
+abbrev pub length_of : ℕ → List Tree → Applied
+length_of cost operands = one operands (λ a. atom_at 0 a (λ a. new_number (cost + length a) (pos (length a))))
 
 -- concat
-abbrev pub concat_of : List Tree → Applied
-concat_of operands = atoms operands (λ atoms. written (142 + 135 * length atoms + 3 * lengths atoms) (concat atoms))
+abbrev pub concat_of : ℕ → List Tree → Applied
+concat_of cost operands = atoms operands (λ atoms. written (cost + 135 * length atoms + 3 * lengths atoms) (concat atoms))
 
 -- ---- numbers
 
@@ -186,82 +196,90 @@ from_left step so_far [] go = go so_far
 from_left step so_far (n ∷ ns) go = if fits_128 (step so_far n) then from_left step (step so_far n) ns go else TooWide
 
 -- +: the sum, 0 for none
-abbrev pub sum_of : List Tree → Applied
-sum_of operands = numbers operands (λ atoms. from_left ◌+ℤ◌ (pos 0) (map number atoms) (new_number (99 + 320 * length atoms + 3 * lengths atoms)))
+abbrev pub sum_of : ℕ → List Tree → Applied
+sum_of cost operands = numbers operands (λ atoms. from_left ◌+ℤ◌ (pos 0) (map number atoms) (new_number (cost + 320 * length atoms + 3 * lengths atoms)))
 
 -- -: the first less the others, 0 for none
-abbrev pub difference_of : List Tree → Applied
-difference_of operands = numbers operands (λ atoms. let first = get_or atoms 0 [] in
-    from_left ◌-ℤ◌ (number first) (map number (drop 1 atoms)) (new_number (99 + 320 * length atoms + 3 * lengths atoms)))
+abbrev pub difference_of : ℕ → List Tree → Applied
+difference_of cost operands = numbers operands (λ atoms. let first = get_or atoms 0 [] in
+    from_left ◌-ℤ◌ (number first) (map number (drop 1 atoms)) (new_number (cost + 320 * length atoms + 3 * lengths atoms)))
 
--- What the operands after the first cost: each 885, 6 per byte of the running product and the operand, and the product
--- of the two lengths / 128. The running product's length is that of its shortest form; at first it's the first operand's.
+-- what an operand of that length costs beside a running product: 885, 6 per byte of both, and the product of the two
+-- lengths / 128
+abbrev pub factor_cost : (size other : ℕ) → ℕ
+factor_cost size other = 885 + 6 * (size + other) + size * other / 128
+
+-- What the operands after the first cost. The running product's length is that of its shortest form; at first it's the
+-- first operand's.
 abbrev pub factors_cost : (size : ℕ) → ℤ → List (List ℕ) → ℕ
 factors_cost size product [] = 0
-factors_cost size product (a ∷ others) = 885 + 6 * (size + length a) + size * length a / 128
-    + factors_cost (length (shortest_atom (product *ℤ number a))) (product *ℤ number a) others
+factors_cost size product (a ∷ others) = factor_cost size (length a) + factors_cost (length (shortest_atom (product *ℤ number a))) (product *ℤ number a) others
 
 -- *: the product, 1 for none
-abbrev pub product_of : List Tree → Applied
-product_of operands = numbers operands (λ atoms. let first = get_or atoms 0 (1 ∷ []) in let others = drop 1 atoms in
-    from_left ◌*ℤ◌ (number first) (map number others) (new_number (92 + factors_cost (length first) (number first) others)))
+abbrev pub product_of : ℕ → List Tree → Applied
+product_of cost operands = numbers operands (λ atoms. let first = get_or atoms 0 (1 ∷ []) in let others = drop 1 atoms in
+    from_left ◌*ℤ◌ (number first) (map number others) (new_number (cost + factors_cost (length first) (number first) others)))
 
 abbrev pub unless_zero : ℤ → Applied → Applied
 unless_zero divisor applied = if is_zero divisor then Fails ZeroDivisor else applied
 
 -- /: the quotient rounded down
-abbrev pub quotient_of : List Tree → Applied
-quotient_of operands = two_numbers operands (λ a b. unless_zero (number b) (new_number (988 + 4 * (length a + length b)) (quotient (number a) (number b))))
+abbrev pub quotient_of : ℕ → List Tree → Applied
+quotient_of cost operands = two_numbers operands (λ a b. unless_zero (number b) (new_number (cost + 4 * (length a + length b)) (quotient (number a) (number b))))
 
 -- divmod: the pair of the quotient rounded down and the remainder
-abbrev pub quotient_and_remainder : List Tree → Applied
-quotient_and_remainder operands = two_numbers operands (λ a b. unless_zero (number b) (new_pair_of_numbers (1116 + 6 * (length a + length b)) (quotient (number a) (number b)) (remainder (number a) (number b))))
+abbrev pub quotient_and_remainder : ℕ → List Tree → Applied
+quotient_and_remainder cost operands = two_numbers operands (λ a b. unless_zero (number b) (new_pair_of_numbers (cost + 6 * (length a + length b)) (quotient (number a) (number b)) (remainder (number a) (number b))))
 
 -- >: 1 where the first is larger, else nil
-abbrev pub greater_flag : List Tree → Applied
-greater_flag operands = two_numbers operands (λ a b. free (flag (int_lt (number b) (number a))) (498 + 2 * (length a + length b)))
+abbrev pub greater_flag : ℕ → List Tree → Applied
+greater_flag cost operands = two_numbers operands (λ a b. free (flag (int_lt (number b) (number a))) (cost + 2 * (length a + length b)))
+
+-- a shifted number, of a value of that length
+abbrev pub new_shifted : (cost size : ℕ) → ℤ → Applied
+new_shifted cost size n = new_number (cost + 3 * (size + length (shortest_atom n))) n
 
 -- ash: the value times 2 ^ shift, rounded down. One that 128 bits don't hold is too wide, whatever its shortest atom is
 -- said to be.
-abbrev pub shift_of_number : List Tree → Applied
-shift_of_number operands = two_numbers operands (λ a by. let n = shifted (number a) (number by) in
-    if is_shift (number by) then new_number (596 + 3 * (length a + length (shortest_atom n))) n else Fails WrongShift)
+abbrev pub shift_of_number : ℕ → List Tree → Applied
+shift_of_number cost operands = two_numbers operands (λ a by. let n = shifted (number a) (number by) in
+    if is_shift (number by) then new_shifted cost (length a) n else Fails WrongShift)
 
 -- lsh: the same of the value read without sign
-abbrev pub shift_of_bits : List Tree → Applied
-shift_of_bits operands = two_numbers operands (λ a by. let n = shifted (pos (unsigned a)) (number by) in
-    if is_shift (number by) then new_number (277 + 3 * (length a + length (shortest_atom n))) n else Fails WrongShift)
+abbrev pub shift_of_bits : ℕ → List Tree → Applied
+shift_of_bits cost operands = two_numbers operands (λ a by. let n = shifted (pos (unsigned a)) (number by) in
+    if is_shift (number by) then new_shifted cost (length a) n else Fails WrongShift)
 
 -- logand, logior, logxor: bit by bit, -1, 0 and 0 for none
-abbrev pub bits_of : (ℤ → ℤ → ℤ) → ℤ → List Tree → Applied
-bits_of step none operands = numbers operands (λ atoms. new_number (100 + 264 * length atoms + 3 * lengths atoms) (fold step none (map number atoms)))
+abbrev pub bits_of : (ℤ → ℤ → ℤ) → ℤ → ℕ → List Tree → Applied
+bits_of step none cost operands = numbers operands (λ atoms. new_number (cost + 264 * length atoms + 3 * lengths atoms) (fold step none (map number atoms)))
 
-abbrev pub and_of : List Tree → Applied
-and_of operands = bits_of (int_bit_and w128) (negsuc 0) operands
+abbrev pub and_of : ℕ → List Tree → Applied
+and_of cost operands = bits_of (int_bit_and w128) (negsuc 0) cost operands
 
-abbrev pub or_of : List Tree → Applied
-or_of operands = bits_of (int_bit_or w128) (pos 0) operands
+abbrev pub or_of : ℕ → List Tree → Applied
+or_of cost operands = bits_of (int_bit_or w128) (pos 0) cost operands
 
-abbrev pub xor_of : List Tree → Applied
-xor_of operands = bits_of (int_bit_xor w128) (pos 0) operands
+abbrev pub xor_of : ℕ → List Tree → Applied
+xor_of cost operands = bits_of (int_bit_xor w128) (pos 0) cost operands
 
 -- lognot: -1 less the number
-abbrev pub complement_of : List Tree → Applied
-complement_of operands = one operands (λ a. number_at 0 a (λ a. new_number (331 + 3 * length a) (negsuc 0 -ℤ number a)))
+abbrev pub complement_of : ℕ → List Tree → Applied
+complement_of cost operands = one operands (λ a. number_at 0 a (λ a. new_number (cost + 3 * length a) (negsuc 0 -ℤ number a)))
 
 -- ---- truth
 
 -- not: 1 for nil, else nil
-abbrev pub nil_flag : List Tree → Applied
-nil_flag operands = one operands (λ operand. free (flag (is_nil operand)) 200)
+abbrev pub nil_flag : ℕ → List Tree → Applied
+nil_flag cost operands = one operands (λ operand. free (flag (is_nil operand)) cost)
 
 abbrev pub is_true : Tree → Bool
 is_true tree = not (is_nil tree)
 
 -- any: 1 where one isn't nil, else nil
-abbrev pub any_flag : List Tree → Applied
-any_flag operands = free (flag (list_any is_true operands)) (200 + 300 * length operands)
+abbrev pub any_flag : ℕ → List Tree → Applied
+any_flag cost operands = free (flag (list_any is_true operands)) (cost + 300 * length operands)
 
 -- all: 1 where none is nil, else nil
-abbrev pub all_flag : List Tree → Applied
-all_flag operands = free (flag (list_all is_true operands)) (200 + 300 * length operands)
+abbrev pub all_flag : ℕ → List Tree → Applied
+all_flag cost operands = free (flag (list_all is_true operands)) (cost + 300 * length operands)

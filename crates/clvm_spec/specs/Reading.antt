@@ -2,6 +2,7 @@
 -- front. Source: serialization of the CLVM reference; the kinds of flaw and their order are this project's own.
 use Rattle.std.specs.Prelude.{ℕ, zero, suc, ◌+◌, ◌*◌, ◌-◌, ◌==◌, List, [], ◌∷◌, length, take, drop, nat_lt, if◌then◌else◌, Option, Some, None}
 use Rattle.clvm_spec.specs.Tree.{Tree, Atom, Pair}
+use Rattle.clvm_spec.specs.Places.{place_of}
 
 pub data Flaw : Type 0 where
   -- The bytes end before the tree does.
@@ -101,11 +102,38 @@ tree_within (suc depth) bytes = from_head (tree_within depth) bytes (head_at byt
 unfoldable pub tree_at_front : List ℕ → Read
 tree_at_front bytes = tree_within (suc (length bytes)) bytes
 
+-- what a reader answers: the tree at the front and how many bytes spell it, or the first flaw and its place
+pub data Front : Type 0 where
+  HasTree : (tree : Tree) (count : ℕ) → Front
+  HasFlaw : (flaw : Flaw) (place : ℕ) → Front
+
+abbrev pub front_of : List ℕ → Read → Front
+front_of bytes (Found tree rest) = HasTree tree (place_of bytes rest)
+front_of bytes (Faulty flaw from) = HasFlaw flaw (place_of bytes from)
+
+abbrev pub front_read : List ℕ → Front
+front_read bytes = front_of bytes (tree_at_front bytes)
+
+-- the same where the tree is to be all of the bytes
+pub data Whole : Type 0 where
+  IsTree : (tree : Tree) → Whole
+  IsFlawed : (flaw : Flaw) (place : ℕ) → Whole
+  -- Bytes are left behind the tree, from this place on.
+  IsLonger : (place : ℕ) → Whole
+
+abbrev pub whole_of : List ℕ → Read → Whole
+whole_of bytes (Found tree []) = IsTree tree
+whole_of bytes (Found tree (b ∷ rest)) = IsLonger (place_of bytes (b ∷ rest))
+whole_of bytes (Faulty flaw from) = IsFlawed flaw (place_of bytes from)
+
+abbrev pub whole_read : List ℕ → Whole
+whole_read bytes = whole_of bytes (tree_at_front bytes)
+
 -- the tree that bytes spell, all of the bytes
-abbrev pub if_whole : Read → Option Tree
-if_whole (Found tree []) = Some tree
-if_whole (Found tree (b ∷ rest)) = None
-if_whole (Faulty flaw rest) = None
+abbrev pub if_tree : Whole → Option Tree
+if_tree (IsTree tree) = Some tree
+if_tree (IsFlawed flaw place) = None
+if_tree (IsLonger place) = None
 
 abbrev pub tree_of : List ℕ → Option Tree
-tree_of bytes = if_whole (tree_at_front bytes)
+tree_of bytes = if_tree (whole_read bytes)

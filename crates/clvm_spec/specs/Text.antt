@@ -8,7 +8,8 @@ use Rattle.clvm_spec.specs.declared.scan_kind.ScanKind.TheVariants.{End, Close, 
 use Rattle.clvm_spec.specs.Tree.{Tree, Atom, Pair, nil}
 use Rattle.clvm_spec.specs.Numbers.{number, shortest_atom}
 use Rattle.clvm_spec.specs.OperatorTable.{Operator, operator_of, operator_named}
-use Rattle.clvm_spec.specs.Tokens.{Token, Opening, Closing, Point, Literal, Symbol, Front, Took, Unread, AtEnd, token_of, place_of}
+use Rattle.clvm_spec.specs.Places.{place_of}
+use Rattle.clvm_spec.specs.Tokens.{Opening, Closing, Point, Literal, Symbol, Front, Took, Unread, AtEnd, token_of}
 
 -- ---- printing
 
@@ -57,19 +58,26 @@ printed tree = text_at Alone tree
 
 -- ---- scanning: forms
 
--- a form and the text behind it, or the first fault and the text from its place on
+-- the tree of a form, or the text from its first symbol on that is no operator's name
+pub data Named : Type 0 where
+  Names : (tree : Tree) → Named
+  Unknown : (from : List ℕ) → Named
+
+-- An operator's name is its code.
+abbrev pub named : List ℕ → Option Operator → Named
+named from None = Unknown from
+named from (Some row) = Names (Atom (row.code ∷ []))
+
+abbrev pub paired : Named → Named → Named
+paired (Names first) (Names rest) = Names (Pair first rest)
+paired (Names first) (Unknown from) = Unknown from
+paired (Unknown from) rest = Unknown from
+
+-- a form and the text behind it; or the first fault: its kind, the text from the first unknown name before it on, and the
+-- text from its own place on
 pub data Parsed : Type 0 where
-  Parses : (tree : Tree) (rest : List ℕ) → Parsed
-  Breaks : (kind : ScanKind) (from : List ℕ) → Parsed
-
-abbrev pub if_parsed : Parsed → (Tree → List ℕ → Parsed) → Parsed
-if_parsed (Parses tree rest) go = go tree rest
-if_parsed (Breaks kind from) go = Breaks kind from
-
--- An operator's name is its code. Other symbols are no forms of CLVM; what stands for them here is never seen.
-abbrev pub code_of : Option Operator → Tree
-code_of None = nil
-code_of (Some row) = Atom (row.code ∷ [])
+  Parses : (form : Named) (rest : List ℕ) → Parsed
+  Breaks : (kind : ScanKind) (unknown : Option (List ℕ)) (from : List ℕ) → Parsed
 
 -- how what stands in a list is read, from inside so many parentheses on, behind an element of it or at its front
 abbrev pub InList : Type 0
@@ -77,58 +85,49 @@ InList = ℕ → Bool → List ℕ → Parsed
 
 -- A `(` opens a list, if it isn't one too many.
 abbrev pub opened : InList → ℕ → List ℕ → List ℕ → Parsed
-opened list depth from rest = if nat_lt depth 1024 then list (suc depth) false rest else Breaks Deep from
+opened list depth from rest = if nat_lt depth 1024 then list (suc depth) false rest else Breaks Deep None from
 
 -- one form
 abbrev pub form_at : InList → ℕ → Front → Parsed
-form_at list depth AtEnd = Breaks End []
-form_at list depth (Unread kind from) = Breaks kind from
-form_at list depth (Took Closing from rest) = Breaks Close from
-form_at list depth (Took Point from rest) = Breaks Dot from
-form_at list depth (Took (Literal bytes) from rest) = Parses (Atom bytes) rest
-form_at list depth (Took (Symbol name) from rest) = Parses (code_of (operator_named name)) rest
+form_at list depth AtEnd = Breaks End None []
+form_at list depth (Unread kind from) = Breaks kind None from
+form_at list depth (Took Closing from rest) = Breaks Close None from
+form_at list depth (Took Point from rest) = Breaks Dot None from
+form_at list depth (Took (Literal bytes) from rest) = Parses (Names (Atom bytes)) rest
+form_at list depth (Took (Symbol name) from rest) = Parses (named from (operator_named name)) rest
 form_at list depth (Took Opening from rest) = opened list depth from rest
 
 -- Behind a dot stand one form and `)`. Whatever else stands there is the dot's fault, but nesting too deep, since that
 -- is still a form.
-abbrev pub closed : Tree → Front → Parsed
-closed tree AtEnd = Breaks End []
-closed tree (Unread kind from) = Breaks kind from
-closed tree (Took Closing from rest) = Parses tree rest
-closed tree (Took Point from rest) = Breaks Dot from
-closed tree (Took (Literal bytes) from rest) = Breaks Dot from
-closed tree (Took (Symbol name) from rest) = Breaks Dot from
-closed tree (Took Opening from rest) = Breaks Dot from
+abbrev pub closed : List ℕ → Named → Front → Parsed
+closed dot form (Took Closing from rest) = Parses form rest
+closed dot form front = Breaks Dot None dot
 
-abbrev pub fault_behind_dot : List ℕ → ScanKind → List ℕ → Parsed
-fault_behind_dot dot Deep from = Breaks Deep from
-fault_behind_dot dot kind from = Breaks Dot dot
+abbrev pub last_form : List ℕ → Parsed → Parsed
+last_form dot (Parses form rest) = closed dot form (token_of rest)
+last_form dot (Breaks Deep unknown from) = Breaks Deep unknown from
+last_form dot (Breaks kind unknown from) = Breaks Dot None dot
 
-abbrev pub behind_dot : List ℕ → Parsed → Parsed
-behind_dot dot (Parses tree rest) = Parses tree rest
-behind_dot dot (Breaks kind from) = fault_behind_dot dot kind from
-
-abbrev pub last_form : InList → ℕ → List ℕ → Parsed
-last_form list depth rest = if_parsed (form_at list depth (token_of rest)) (λ tree more. closed tree (token_of more))
+-- What is read behind an element. An unknown name in the element stands before all that.
+abbrev pub behind : Named → Parsed → Parsed
+behind form (Parses forms rest) = Parses (paired form forms) rest
+behind (Names tree) (Breaks kind unknown from) = Breaks kind unknown from
+behind (Unknown name) (Breaks kind unknown from) = Breaks kind (Some name) from
 
 -- an element, and the list behind it
 abbrev pub with_rest : InList → ℕ → Parsed → Parsed
-with_rest list depth first = if_parsed first (λ tree rest. if_parsed (list depth true rest) (λ trees more. Parses (Pair tree trees) more))
+with_rest list depth (Parses form rest) = behind form (list depth true rest)
+with_rest list depth (Breaks kind unknown from) = Breaks kind unknown from
 
 -- what stands in a list, whether behind an element or at its front, up to its `)`
 abbrev pub list_at : InList → ℕ → Bool → Front → Parsed
-list_at list depth begun (Took Closing from rest) = Parses nil rest
-list_at list depth true (Took Point from rest) = behind_dot from (last_form list depth rest)
-list_at list depth false (Took Point from rest) = Breaks Dot from
-list_at list depth begun (Took Opening from rest) = with_rest list depth (opened list depth from rest)
-list_at list depth begun (Took (Literal bytes) from rest) = with_rest list depth (Parses (Atom bytes) rest)
-list_at list depth begun (Took (Symbol name) from rest) = with_rest list depth (Parses (code_of (operator_named name)) rest)
-list_at list depth begun (Unread kind from) = Breaks kind from
-list_at list depth begun AtEnd = Breaks End []
+list_at list depth begun (Took Closing from rest) = Parses (Names nil) rest
+list_at list depth true (Took Point from rest) = last_form from (form_at list depth (token_of rest))
+list_at list depth begun front = with_rest list depth (form_at list depth front)
 
 -- Each token takes a byte, so the first number only bounds the recursion.
 abbrev pub list_within : ℕ → InList
-list_within zero depth begun text = Breaks End []
+list_within zero depth begun text = Breaks End None []
 list_within (suc bound) depth begun text = list_at (list_within bound) depth begun (token_of text)
 
 abbrev pub form_of : List ℕ → Parsed
@@ -151,41 +150,11 @@ at_last text tree (Unread kind from) = Unreadable kind (place_of text from)
 at_last text tree (Took token from rest) = LeftOver (place_of text from)
 
 abbrev pub whole : List ℕ → Parsed → Scanned
-whole text (Parses tree rest) = at_last text tree (token_of rest)
-whole text (Breaks kind from) = Unreadable kind (place_of text from)
-
--- the first symbol before a place that is no operator's name
-abbrev pub unnamed_symbol : Option Operator → ℕ → Option ℕ → Option ℕ
-unnamed_symbol None place later = Some place
-unnamed_symbol (Some row) place later = later
-
-abbrev pub unnamed_token : Token → ℕ → Option ℕ → Option ℕ
-unnamed_token Opening place later = later
-unnamed_token Closing place later = later
-unnamed_token Point place later = later
-unnamed_token (Literal bytes) place later = later
-unnamed_token (Symbol name) place later = unnamed_symbol (operator_named name) place later
-
-abbrev pub unnamed_at : (List ℕ → Option ℕ) → List ℕ → ℕ → Front → Option ℕ
-unnamed_at go text end AtEnd = None
-unnamed_at go text end (Unread kind from) = None
-unnamed_at go text end (Took token from rest) = if nat_lt (place_of text from) end then unnamed_token token (place_of text from) (go rest) else None
-
-abbrev pub unnamed_within : ℕ → List ℕ → ℕ → List ℕ → Option ℕ
-unnamed_within zero text end rest = None
-unnamed_within (suc bound) text end rest = unnamed_at (unnamed_within bound text end) text end (token_of rest)
-
--- where the text has its form or its fault
-abbrev pub end_of : List ℕ → Scanned → ℕ
-end_of text (Scans tree) = length text
-end_of text (Unreadable kind place) = place
-end_of text (Unnamed place) = place
-end_of text (LeftOver place) = place
-
-abbrev pub unless_unnamed : Option ℕ → Scanned → Scanned
-unless_unnamed None found = found
-unless_unnamed (Some place) found = Unnamed place
+whole text (Parses (Names tree) rest) = at_last text tree (token_of rest)
+whole text (Parses (Unknown name) rest) = Unnamed (place_of text name)
+whole text (Breaks kind None from) = Unreadable kind (place_of text from)
+whole text (Breaks kind (Some name) from) = Unnamed (place_of text name)
 
 -- Of all faults of a text the first from the front is told.
 unfoldable pub scanned : List ℕ → Scanned
-scanned text = let found = whole text (form_of text) in unless_unnamed (unnamed_within (length text) text (end_of text found) text) found
+scanned text = whole text (form_of text)

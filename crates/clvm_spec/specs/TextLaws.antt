@@ -5,7 +5,7 @@ use Rattle.clvm_spec.specs.declared.scan_kind.ScanKind.TheVariants.{Deep}
 use Rattle.clvm_spec.specs.Tree.{Tree, Atom, Pair}
 use Rattle.clvm_spec.specs.Laws.{AreBytes}
 use Rattle.clvm_spec.specs.Tokens.{token_of}
-use Rattle.clvm_spec.specs.Text.{printed, InList, form_at, list_at, list_within, form_of, unnamed_within, Scans, Unreadable, scanned}
+use Rattle.clvm_spec.specs.Text.{printed, InList, form_at, list_at, list_within, form_of, Scans, Unreadable, scanned}
 
 -- what stands in a list, with nothing to bound it
 abbrev pub list_from : InList
@@ -16,21 +16,18 @@ list_from depth begun text = list_within (suc (length text)) depth begun text
 abbrev pub FormsAreWithinTheText : Type 0
 FormsAreWithinTheText = (bound : ℕ) (text : List ℕ) → length text ≤ bound → form_at (list_within bound) 0 (token_of text) ≡ form_of text
 
-abbrev pub NamesAreWithinTheText : Type 0
-NamesAreWithinTheText = (bound : ℕ) (text : List ℕ) (end : ℕ) (rest : List ℕ) → length rest ≤ bound →
-    unnamed_within bound text end rest ≡ unnamed_within (length rest) text end rest
-
 -- So what stands in a list is what its first token begins, with the same for what is behind it.
 abbrev pub ListIsItsStep : Type 0
 ListIsItsStep = (depth : ℕ) (begun : Bool) (text : List ℕ) → list_from depth begun text ≡ list_at list_from depth begun (token_of text)
 
--- whether a text never has more parentheses open at once than so many
+-- how many parentheses may still be opened
 abbrev pub may_open : ℕ → ℕ → Bool
 may_open room b = not (b == 0x28) || nat_lt 0 room
 
 abbrev pub room_behind : ℕ → ℕ → ℕ
 room_behind room b = if b == 0x28 then room - 1 else (if b == 0x29 then suc room else room)
 
+-- Whether a text without quotes and comments, as printing gives it, never has more parentheses open at once than so many.
 abbrev pub nests_within : ℕ → List ℕ → Bool
 nests_within room [] = true
 nests_within room (b ∷ text) = may_open room b && nests_within (room_behind room b) text

@@ -1,6 +1,6 @@
 -- The tokens of a text, of CLVM's and of Chialisp's. Source: Chialisp reference; that an odd number of digits behind
 -- `0x` or none is refused, the width of numbers, and the faults, are this project's own.
-use Rattle.std.specs.Prelude.{ℕ, suc, ◌-◌, ◌==◌, ℤ, Bool, true, false, not, ◌&&◌, ◌||◌, List, [], ◌∷◌, length, take, drop, bytes_eq, codes, nat_lt, nat_le, if◌then◌else◌, Result, Ok, Err}
+use Rattle.std.specs.Prelude.{ℕ, suc, ◌==◌, ℤ, Bool, true, false, not, ◌&&◌, ◌||◌, List, [], ◌∷◌, length, take, drop, bytes_eq, codes, nat_lt, nat_le, if◌then◌else◌, Result, Ok, Err}
 use Rattle.std.specs.List.{prefix_len}
 use Rattle.std.specs.Char.{is_ascii_digit}
 use Rattle.std.specs.Str.{all_ascii_digits}
@@ -131,7 +131,3 @@ at_front (b ∷ bytes) = at_opening b bytes
 
 unfoldable pub token_of : List ℕ → Front
 token_of text = at_front (without_blanks false text)
-
--- the place of the text from there on
-abbrev pub place_of : List ℕ → List ℕ → ℕ
-place_of text from = length text - length from

@@ -5,6 +5,7 @@
 pub mod arithmetic;
 pub mod arithmetic_laws;
 pub mod codec_laws;
+pub mod column_laws;
 pub mod fuel;
 pub mod fuel_laws;
 mod numbers;
@@ -14,5 +15,5 @@ mod tests;
 pub mod text_laws;
 
 pub use fuel::{Fuel, Which};
-pub use numbers::shortest_bytes;
+pub use numbers::{number_length, shortest_bytes};
 pub use scan_kind::ScanKind;

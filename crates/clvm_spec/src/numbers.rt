@@ -1,5 +1,5 @@
-ghost use Rattle.std.specs.Prelude.{◌≡◌};
-ghost use Rattle.clvm_spec.specs.Numbers.{has_sign_byte, without_sign_bytes};
+ghost use Rattle.std.specs.Prelude.{◌≡◌, ℕ, ◌≤◌, length, pos, negsuc};
+ghost use Rattle.clvm_spec.specs.Numbers.{has_sign_byte, without_sign_bytes, shortest_atom};
 
 /// The shortest two's complement form of the same number: the bytes without the leading ones that repeat the sign.
 pub fn shortest_bytes(bytes: &[u8]) -> &[u8]
@@ -21,4 +21,24 @@ fn has_sign_byte(bytes: &[u8]) -> bool
         [byte] => *byte == 0,
         [byte, next, ..] => (*byte == 0 && *next < 0x80) || (*byte == 0xff && *next >= 0x80),
     }
+}
+
+/// How many bytes the shortest atom of a number has.
+pub fn number_length(number: i128) -> usize
+    ensures length { result ≡ length (shortest_atom number) }
+    ensures few { result ≤ 16 }
+{
+    if number == 0 {
+        return 0;
+    }
+    let bits = 128 - without_sign(number).leading_zeros();
+    bits as usize / 8 + 1
+}
+
+// The number of the bits beside the sign's, turned round where the number is negative.
+fn without_sign(number: i128) -> i128
+    ensures positive { (n : ℕ) → number ≡ pos n → result ≡ pos n }
+    ensures negative { (n : ℕ) → number ≡ negsuc n → result ≡ pos n }
+{
+    if number < 0 { -1 - number } else { number }
 }

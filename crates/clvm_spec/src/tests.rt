@@ -1,4 +1,5 @@
 use super::arithmetic::{is_shift_amount, leading_zero_bytes, quotient_of};
+use super::{number_length, shortest_bytes};
 
 #[test]
 fn calculates_as_the_table_says(rt: HostRuntime) {
@@ -36,4 +37,35 @@ fn calculates_as_the_table_says(rt: HostRuntime) {
     assert!(rt; leading_zero_bytes(&[0, 0, 2, 0]) == 2);
     assert!(rt; leading_zero_bytes(&[0]) == 1);
     assert!(rt; leading_zero_bytes(&[]) == 0);
+}
+
+#[test]
+fn drops_the_bytes_that_repeat_the_sign(rt: HostRuntime) {
+    for (bytes, shortest) in [
+        (b"".as_slice(), b"".as_slice()),
+        (b"\0\0".as_slice(), b"".as_slice()),
+        (b"\0\0\x80".as_slice(), b"\0\x80".as_slice()),
+        (b"\0\x7f".as_slice(), b"\x7f".as_slice()),
+        (b"\xff\xff\x80".as_slice(), b"\x80".as_slice()),
+        (b"\xff\x7f".as_slice(), b"\xff\x7f".as_slice()),
+        (b"\xff".as_slice(), b"\xff".as_slice()),
+    ] {
+        assert!(rt; shortest_bytes(bytes) == shortest);
+    }
+}
+
+#[test]
+fn counts_the_bytes_of_shortest_atoms(rt: HostRuntime) {
+    for (number, length) in [
+        (0, 0),
+        (127, 1),
+        (128, 2),
+        (-1, 1),
+        (-128, 1),
+        (-129, 2),
+        (i128::MAX, 16),
+        (i128::MIN, 16),
+    ] {
+        assert_eq!(rt; number_length(number), length, "of {number}");
+    }
 }

@@ -1,11 +1,10 @@
 //! Laws of CLVM text. Each is the contract of a function that does nothing.
 
-ghost use Rattle.clvm_spec.specs.TextLaws.{FormsAreWithinTheText, NamesAreWithinTheText, ListIsItsStep, PrintedIsScanned, PrintedTooDeep};
+ghost use Rattle.clvm_spec.specs.TextLaws.{FormsAreWithinTheText, ListIsItsStep, PrintedIsScanned, PrintedTooDeep};
 
-/// Scanning needs no more steps than its text has bytes, so the definition's bounds are no part of its meaning.
+/// Scanning needs no more steps than its text has bytes, so the definition's bound is no part of its meaning.
 pub fn steps_are_within_the_text()
-    ensures forms { FormsAreWithinTheText }
-    ensures names { NamesAreWithinTheText }
+    ensures { FormsAreWithinTheText }
 {}
 
 /// What stands in a list is what its first token begins, with the same for what is behind that.

@@ -1,39 +1,60 @@
 -- What is read in frames.
-use Rattle.std.proofs.Common.{◌≡◌, ℕ, ◌+◌, ◌≤◌, List, [], ◌∷◌, ◌++◌, drop, Option, None, Some, refl, ◌∙◌, ap, arith}
+use Rattle.std.proofs.Common.{◌≡◌, ℕ, ◌+◌, ◌≤◌, Bool, true, false, List, [], ◌∷◌, ◌++◌, length, drop, None, Some, refl, sym, ◌∙◌, ap, subst, arith}
 use Rattle.clvm_spec.specs.declared.scan_kind.ScanKind.{ScanKind}
 use Rattle.clvm_spec.specs.declared.scan_kind.ScanKind.TheVariants.{End, Close, Deep, Hex, Number, Text, Byte}
 use Rattle.clvm_spec.specs.declared.scan_kind.ScanKind.TheVariants as kind
-use Rattle.clvm_spec.specs.Tree.{Tree, Pair}
-use Rattle.clvm_spec.specs.Text.{Parsed, Parses, Breaks, if_parsed, fault_behind_dot, behind_dot}
-use Rattle.clvm_tree.specs.Nodes.{Grows}
+use Rattle.clvm_spec.specs.Tree.{Tree}
+use Rattle.clvm_spec.specs.Text.{Names, Parsed, Breaks, last_form, behind, with_rest}
+use Rattle.clvm_spec.specs.Text as text
+use Rattle.clvm_spec.specs.TextLaws.{list_from}
+use Rattle.clvm_tree.specs.Nodes.{tree_at, Grows}
 use Rattle.clvm_tree.proofs.NodeLaws.{stays, grows_length}
+use Rattle.clvm_text.specs.declared.TextFault.{TextFault}
+use Rattle.clvm_text.specs.declared.TextFault.TheVariants.{Read, Name, Left, OutOfMemory}
+use Rattle.clvm_text.specs.declared.frames.Form.{Form}
+use Rattle.clvm_text.specs.declared.frames.Form.TheVariants as form
 use Rattle.clvm_text.specs.declared.frames.Frame.{Frame}
 use Rattle.clvm_text.specs.declared.frames.Frame.TheVariants.{Whole, Inner, Element, Dot}
 use Rattle.clvm_text.specs.declared.frames.Mode.{Mode}
 use Rattle.clvm_text.specs.declared.frames.Mode.TheVariants as mode
-use Rattle.clvm_text.specs.Frames.{framed, resumed, IsBegun, AreBegun, IsFrameWithin, AreDotsWithin, IsDotWithin, element_of, elements, dot_of, first_dot, fault_behind, IsBroken}
+use Rattle.clvm_text.specs.Forms.{formed, IsKnownForm, IsFormWithin}
+use Rattle.clvm_text.specs.Frames.{framed, resumed, IsBegun, AreBegun, IsFrameWithin, AreWithin, IsModeWithin, element_of, elements, told_by, told_or, fault_behind, fault_in, IsBroken}
+
+-- ---- forms in trees that grow
+
+pub formed-grows : (a b : List Tree) (bytes : List ℕ) (f : Form) → Grows a b → IsKnownForm a f → formed b bytes f ≡ formed a bytes f
+formed-grows a b bytes (form.Tree node) grows h = ap Names (stays a b node.0 grows h)
+formed-grows a b bytes (form.Unknown place) grows h = refl
+
+pub known-grows : (a b : List Tree) (f : Form) → Grows a b → IsKnownForm a f → IsKnownForm b f
+known-grows a b (form.Tree node) grows h = omega (arith, h, grows_length a b grows)
+known-grows a b (form.Unknown place) grows h = tt
+
+pub form_later : (a b : ℕ) (f : Form) → a ≤ b → IsFormWithin a f → IsFormWithin b f
+form_later a b (form.Tree node) le h = tt
+form_later a b (form.Unknown place) le h = omega (arith, le, h)
 
 -- ---- one more frame, within the others
 
-pub resumed-push : (trees : List Tree) (text : List ℕ) (frames : List Frame) (frame : Frame) (parsed : Parsed) → resumed trees text (frames ++ frame ∷ []) parsed ≡ resumed trees text frames (framed trees text frame parsed)
-resumed-push trees text [] frame parsed = refl
-resumed-push trees text (f ∷ frames) frame parsed = ap (framed trees text f) (resumed-push trees text frames frame parsed)
+pub resumed-push : (trees : List Tree) (bytes : List ℕ) (frames : List Frame) (frame : Frame) (parsed : Parsed) → resumed trees bytes (frames ++ frame ∷ []) parsed ≡ resumed trees bytes frames (framed trees bytes frame parsed)
+resumed-push trees bytes [] frame parsed = refl
+resumed-push trees bytes (f ∷ frames) frame parsed = ap (framed trees bytes f) (resumed-push trees bytes frames frame parsed)
 
-framed-grows : (a b : List Tree) (text : List ℕ) (frame : Frame) (parsed : Parsed) → Grows a b → IsBegun a frame → framed b text frame parsed ≡ framed a text frame parsed
-framed-grows a b text Whole parsed grows h = refl
-framed-grows a b text (Inner depth) parsed grows h = refl
-framed-grows a b text (Element node) parsed grows h = ap (λ t. if_parsed parsed (λ rest more. Parses (Pair t rest) more)) (stays a b node.0 grows h)
-framed-grows a b text (Dot place) parsed grows h = refl
+framed-grows : (a b : List Tree) (bytes : List ℕ) (frame : Frame) (parsed : Parsed) → Grows a b → IsBegun a frame → framed b bytes frame parsed ≡ framed a bytes frame parsed
+framed-grows a b bytes Whole parsed grows h = refl
+framed-grows a b bytes (Inner depth) parsed grows h = refl
+framed-grows a b bytes (Element first) parsed grows h = ap (λ f. behind f parsed) (formed-grows a b bytes first grows h)
+framed-grows a b bytes (Dot place) parsed grows h = refl
 
-pub resumed-grows : (a b : List Tree) (text : List ℕ) (frames : List Frame) (parsed : Parsed) → Grows a b → AreBegun a frames → resumed b text frames parsed ≡ resumed a text frames parsed
-resumed-grows a b text [] parsed grows h = refl
-resumed-grows a b text (f ∷ frames) parsed grows h =
-    framed-grows a b text f (resumed b text frames parsed) grows h.0 ∙ ap (framed a text f) (resumed-grows a b text frames parsed grows h.1)
+pub resumed-grows : (a b : List Tree) (bytes : List ℕ) (frames : List Frame) (parsed : Parsed) → Grows a b → AreBegun a frames → resumed b bytes frames parsed ≡ resumed a bytes frames parsed
+resumed-grows a b bytes [] parsed grows h = refl
+resumed-grows a b bytes (f ∷ frames) parsed grows h =
+    framed-grows a b bytes f (resumed b bytes frames parsed) grows h.0 ∙ ap (framed a bytes f) (resumed-grows a b bytes frames parsed grows h.1)
 
 begun-grows : (a b : List Tree) (frame : Frame) → Grows a b → IsBegun a frame → IsBegun b frame
 begun-grows a b Whole grows h = tt
 begun-grows a b (Inner depth) grows h = tt
-begun-grows a b (Element node) grows h = omega (arith, h, grows_length a b grows)
+begun-grows a b (Element first) grows h = known-grows a b first grows h
 begun-grows a b (Dot place) grows h = tt
 
 pub AreBegun-grows : (a b : List Tree) (frames : List Frame) → Grows a b → AreBegun a frames → AreBegun b frames
@@ -48,118 +69,160 @@ pub AreBegun-init : (trees : List Tree) (frames : List Frame) (frame : Frame) �
 AreBegun-init trees [] frame h = (tt, h.0)
 AreBegun-init trees (f ∷ frames) frame h = let more = AreBegun-init trees frames frame h.1 in ((h.0, more.0), more.1)
 
-pub AreDots-push : (limit : ℕ) (frames : List Frame) (frame : Frame) → AreDotsWithin limit frames → IsFrameWithin limit frame → AreDotsWithin limit (frames ++ frame ∷ [])
-AreDots-push limit [] frame h l = (l, tt)
-AreDots-push limit (f ∷ frames) frame h l = (h.0, AreDots-push limit frames frame h.1 l)
+pub AreWithin-push : (limit : ℕ) (frames : List Frame) (frame : Frame) → AreWithin limit frames → IsFrameWithin limit frame → AreWithin limit (frames ++ frame ∷ [])
+AreWithin-push limit [] frame h l = (l, tt)
+AreWithin-push limit (f ∷ frames) frame h l = (h.0, AreWithin-push limit frames frame h.1 l)
 
-pub AreDots-init : (limit : ℕ) (frames : List Frame) (frame : Frame) → AreDotsWithin limit (frames ++ frame ∷ []) → AreDotsWithin limit frames × IsFrameWithin limit frame
-AreDots-init limit [] frame h = (tt, h.0)
-AreDots-init limit (f ∷ frames) frame h = let more = AreDots-init limit frames frame h.1 in ((h.0, more.0), more.1)
+pub AreWithin-init : (limit : ℕ) (frames : List Frame) (frame : Frame) → AreWithin limit (frames ++ frame ∷ []) → AreWithin limit frames × IsFrameWithin limit frame
+AreWithin-init limit [] frame h = (tt, h.0)
+AreWithin-init limit (f ∷ frames) frame h = let more = AreWithin-init limit frames frame h.1 in ((h.0, more.0), more.1)
 
 frame_later : (a b : ℕ) (frame : Frame) → a ≤ b → IsFrameWithin a frame → IsFrameWithin b frame
 frame_later a b Whole le h = tt
 frame_later a b (Inner depth) le h = tt
-frame_later a b (Element node) le h = tt
+frame_later a b (Element first) le h = form_later a b first le h
 frame_later a b (Dot place) le h = omega (arith, le, h)
 
-pub dots_later : (a b : ℕ) (frames : List Frame) → a ≤ b → AreDotsWithin a frames → AreDotsWithin b frames
-dots_later a b [] le h = tt
-dots_later a b (f ∷ frames) le h = (frame_later a b f le h.0, dots_later a b frames le h.1)
+pub frames_later : (a b : ℕ) (frames : List Frame) → a ≤ b → AreWithin a frames → AreWithin b frames
+frames_later a b [] le h = tt
+frames_later a b (f ∷ frames) le h = (frame_later a b f le h.0, frames_later a b frames le h.1)
 
-pub dot_later : (a b : ℕ) (awaited : Mode) → a ≤ b → IsDotWithin a awaited → IsDotWithin b awaited
-dot_later a b (mode.Form depth) le h = tt
-dot_later a b (mode.List depth begun) le h = tt
-dot_later a b (mode.Close node place) le h = omega (arith, le, h)
+pub mode_later : (a b : ℕ) (awaited : Mode) → a ≤ b → IsModeWithin a awaited → IsModeWithin b awaited
+mode_later a b (mode.Form depth) le h = tt
+mode_later a b (mode.List depth begun) le h = tt
+mode_later a b (mode.Close last place) le h = (form_later a b last le h.0, omega (arith, le, h.1))
 
 pub elements-push : (frames : List Frame) (frame : Frame) → elements (frames ++ frame ∷ []) ≡ elements frames + element_of frame
 elements-push [] frame = omega arith
 elements-push (f ∷ frames) frame = omega (arith, elements-push frames frame)
 
+pub no_frames : (frames : List Frame) → length frames ≡ 0 → frames ≡ []
+no_frames [] e = refl
+no_frames (f ∷ frames) e = absurd (omega (arith, e))
+
 -- ---- faults
 
-abbrev pub dotted : List ℕ → Option ℕ → Parsed → Parsed
-dotted text None parsed = parsed
-dotted text (Some place) parsed = behind_dot (drop place text) parsed
+abbrev is_deep : ScanKind → Bool
+is_deep Deep = true
+is_deep what = false
 
-abbrev dot_or : List ℕ → Option ℕ → Parsed → Parsed
-dot_or text None parsed = parsed
-dot_or text (Some place) parsed = Breaks kind.Dot (drop place text)
+-- What is told behind an unknown name is nesting too deep exactly where that was wrong.
+record TellsBehind (name : List ℕ) (what : ScanKind) (parsed : Parsed) : Type 0 where
+  told : ScanKind
+  from : List ℕ
+  is : parsed ≡ Breaks told (Some name) from
+  deep : is_deep told ≡ is_deep what
 
-deep_frame : (trees : List Tree) (text : List ℕ) (frame : Frame) (from : List ℕ) → framed trees text frame (Breaks Deep from) ≡ Breaks Deep from
-deep_frame trees text Whole from = refl
-deep_frame trees text (Inner depth) from = refl
-deep_frame trees text (Element node) from = refl
-deep_frame trees text (Dot place) from = refl
+-- this fault is told where this was wrong
+abbrev Tells : ℕ → List ℕ → ScanKind → TextFault → Parsed → Type 0
+Tells limit bytes what (Read told place) parsed = (place ≤ limit) × (parsed ≡ Breaks told None (drop place bytes)) × (is_deep told ≡ is_deep what)
+Tells limit bytes what (Name place) parsed = (place ≤ limit) × TellsBehind (drop place bytes) what parsed
+Tells limit bytes what (Left place) parsed = ⊥
+Tells limit bytes what OutOfMemory parsed = ⊥
 
-deep : (trees : List Tree) (text : List ℕ) (frames : List Frame) (dot : Option ℕ) (from : List ℕ) → resumed trees text frames (dotted text dot (Breaks Deep from)) ≡ Breaks Deep from
-deep trees text [] None from = refl
-deep trees text [] (Some place) from = refl
-deep trees text (f ∷ frames) dot from = ap (framed trees text f) (deep trees text frames dot from) ∙ deep_frame trees text f from
+-- The frame keeps what breaks.
+abbrev Keeps : (Parsed → Parsed) → Type 0
+Keeps frame = (what : ScanKind) (unknown : _) (from : List ℕ) → frame (Breaks what unknown from) ≡ Breaks what unknown from
 
-not_deep : (dot : List ℕ) (what : ScanKind) (from : List ℕ) → (what ≡ Deep → ⊥) → fault_behind_dot dot what from ≡ Breaks kind.Dot dot
-not_deep dot End from h = refl
-not_deep dot Close from h = refl
-not_deep dot kind.Dot from h = refl
-not_deep dot Hex from h = refl
-not_deep dot Number from h = refl
-not_deep dot Text from h = refl
-not_deep dot Byte from h = refl
-not_deep dot Deep from h = absurd (h refl)
+tells_kept : (limit : ℕ) (bytes : List ℕ) (what : ScanKind) (fault : TextFault) (parsed : Parsed) (frame : Parsed → Parsed) → Keeps frame → Tells limit bytes what fault parsed → Tells limit bytes what fault (frame parsed)
+tells_kept limit bytes what (Read told place) parsed frame keeps h = (h.0, ap frame h.1 ∙ keeps told None (drop place bytes), h.2)
+tells_kept limit bytes what (Name place) parsed frame keeps h =
+    (h.0, record { told = h.1.told; from = h.1.from; is = ap frame h.1.is ∙ keeps h.1.told (Some (drop place bytes)) h.1.from; deep = h.1.deep })
+tells_kept limit bytes what (Left place) parsed frame keeps h = absurd h
+tells_kept limit bytes what OutOfMemory parsed frame keeps h = absurd h
 
-shallow_frame : (trees : List Tree) (text : List ℕ) (frame : Frame) (above : List Frame) (dot found : Option ℕ) (what : ScanKind) (from : List ℕ) → (what ≡ Deep → ⊥) → first_dot above dot ≡ found →
-    framed trees text frame (dot_or text (first_dot above dot) (Breaks what from)) ≡ dot_or text (first_dot (frame ∷ above) dot) (Breaks what from)
-shallow_frame trees text Whole above dot found what from h e = refl
-shallow_frame trees text (Inner depth) above dot None what from h e = rw e refl
-shallow_frame trees text (Inner depth) above dot (Some place) what from h e = rw e refl
-shallow_frame trees text (Element node) above dot None what from h e = rw e refl
-shallow_frame trees text (Element node) above dot (Some place) what from h e = rw e refl
-shallow_frame trees text (Dot at) above dot None what from h e = rw e (not_deep (drop at text) what from h)
-shallow_frame trees text (Dot at) above dot (Some place) what from h e = rw e refl
+tells_name : (limit : ℕ) (bytes : List ℕ) (what : ScanKind) (fault : TextFault) (parsed : Parsed) (name : ℕ) → name ≤ limit → Tells limit bytes what fault parsed → Tells limit bytes what (Name name) (behind (text.Unknown (drop name bytes)) parsed)
+tells_name limit bytes what (Read told place) parsed name le h =
+    (le, record { told = told; from = drop place bytes; is = ap (behind (text.Unknown (drop name bytes))) h.1; deep = h.2 })
+tells_name limit bytes what (Name place) parsed name le h =
+    (le, record { told = h.1.told; from = h.1.from; is = ap (behind (text.Unknown (drop name bytes))) h.1.is; deep = h.1.deep })
+tells_name limit bytes what (Left place) parsed name le h = absurd h
+tells_name limit bytes what OutOfMemory parsed name le h = absurd h
 
-shallow : (trees : List Tree) (text : List ℕ) (frames : List Frame) (dot : Option ℕ) (what : ScanKind) (from : List ℕ) → (what ≡ Deep → ⊥) → resumed trees text frames (dotted text dot (Breaks what from)) ≡ dot_or text (first_dot frames dot) (Breaks what from)
-shallow trees text [] None what from h = refl
-shallow trees text [] (Some place) what from h = not_deep (drop place text) what from h
-shallow trees text (f ∷ frames) dot what from h = ap (framed trees text f) (shallow trees text frames dot what from h) ∙ shallow_frame trees text f frames dot (first_dot frames dot) what from h refl
+-- behind a dot
+record IsShallow (what : ScanKind) : Type 0 where
+  told : (place : ℕ) → told_by (Dot place) what ≡ Some (Read kind.Dot place)
+  last : (dot : List ℕ) (unknown : _) (from : List ℕ) → last_form dot (Breaks what unknown from) ≡ Breaks kind.Dot None dot
 
-abbrev IsOptionWithin : ℕ → Option ℕ → Type 0
-IsOptionWithin limit None = Unit {0}
-IsOptionWithin limit (Some place) = place ≤ limit
+shallow : (what : ScanKind) → is_deep what ≡ false → IsShallow what
+shallow End e = record { told = λ place. refl; last = λ dot unknown from. refl }
+shallow Close e = record { told = λ place. refl; last = λ dot unknown from. refl }
+shallow kind.Dot e = record { told = λ place. refl; last = λ dot unknown from. refl }
+shallow Hex e = record { told = λ place. refl; last = λ dot unknown from. refl }
+shallow Number e = record { told = λ place. refl; last = λ dot unknown from. refl }
+shallow Text e = record { told = λ place. refl; last = λ dot unknown from. refl }
+shallow Byte e = record { told = λ place. refl; last = λ dot unknown from. refl }
+shallow Deep e = cc
 
-first_within : (limit : ℕ) (frames : List Frame) (dot : Option ℕ) → AreDotsWithin limit frames → IsOptionWithin limit dot → IsOptionWithin limit (first_dot frames dot)
-first_within limit [] dot h d = d
-first_within limit (Whole ∷ frames) dot h d = first_within limit frames dot h.1 d
-first_within limit (Inner depth ∷ frames) dot h d = first_within limit frames dot h.1 d
-first_within limit (Element node ∷ frames) dot h d = first_within limit frames dot h.1 d
-first_within limit (Dot place ∷ frames) dot h d = h.0
+deep : (what : ScanKind) → is_deep what ≡ true → what ≡ Deep
+deep End e = cc
+deep Close e = cc
+deep kind.Dot e = cc
+deep Hex e = cc
+deep Number e = cc
+deep Text e = cc
+deep Byte e = cc
+deep Deep e = refl
 
-mode_within : (limit : ℕ) (awaited : Mode) → IsDotWithin limit awaited → IsOptionWithin limit (dot_of awaited)
-mode_within limit (mode.Form depth) h = tt
-mode_within limit (mode.List depth begun) h = tt
-mode_within limit (mode.Close node place) h = h
+tells_dot : (limit : ℕ) (bytes : List ℕ) (what : ScanKind) (fault : TextFault) (parsed : Parsed) (place : ℕ) → place ≤ limit → is_deep what ≡ false → Tells limit bytes what fault parsed →
+    Tells limit bytes what (Read kind.Dot place) (last_form (drop place bytes) parsed)
+tells_dot limit bytes what (Read told at) parsed place le e h =
+    (le, ap (last_form (drop place bytes)) h.1 ∙ (shallow told (h.2 ∙ e)).last (drop place bytes) None (drop at bytes), sym e)
+tells_dot limit bytes what (Name at) parsed place le e h =
+    (le, ap (last_form (drop place bytes)) h.1.is ∙ (shallow h.1.told (h.1.deep ∙ e)).last (drop place bytes) (Some (drop at bytes)) h.1.from, sym e)
+tells_dot limit bytes what (Left at) parsed place le e h = absurd h
+tells_dot limit bytes what OutOfMemory parsed place le e h = absurd h
 
-broken_by : (place : ℕ) (text : List ℕ) (found : Option ℕ) (what : ScanKind) (parsed : Parsed) → (what ≡ Deep → ⊥) → IsOptionWithin place found → parsed ≡ dot_or text found (Breaks what (drop place text)) → IsBroken place text (fault_behind found what place) parsed
-broken_by place text None what parsed h d e = (omega arith, e)
-broken_by place text (Some dot) End parsed h d e = (d, e)
-broken_by place text (Some dot) Close parsed h d e = (d, e)
-broken_by place text (Some dot) kind.Dot parsed h d e = (d, e)
-broken_by place text (Some dot) Hex parsed h d e = (d, e)
-broken_by place text (Some dot) Number parsed h d e = (d, e)
-broken_by place text (Some dot) Text parsed h d e = (d, e)
-broken_by place text (Some dot) Byte parsed h d e = (d, e)
-broken_by place text (Some dot) Deep parsed h d e = absurd (h refl)
+tells_deep : (limit : ℕ) (bytes : List ℕ) (fault : TextFault) (parsed : Parsed) (place : ℕ) → Tells limit bytes Deep fault parsed → Tells limit bytes Deep fault (last_form (drop place bytes) parsed)
+tells_deep limit bytes (Read told at) parsed place h =
+    let is = deep told h.2 in
+    (h.0, ap (last_form (drop place bytes)) (h.1 ∙ ap (λ k. Breaks k None (drop at bytes)) is) ∙ ap (λ k. Breaks k None (drop at bytes)) (sym is), h.2)
+tells_deep limit bytes (Name at) parsed place h =
+    let is = deep h.1.told h.1.deep in (
+      h.0,
+      record {
+        told = Deep;
+        from = h.1.from;
+        is = ap (last_form (drop place bytes)) (h.1.is ∙ ap (λ k. Breaks k (Some (drop at bytes)) h.1.from) is);
+        deep = refl;
+      },
+    )
+tells_deep limit bytes (Left at) parsed place h = absurd h
+tells_deep limit bytes OutOfMemory parsed place h = absurd h
 
-broken_deep : (place : ℕ) (text : List ℕ) (found : Option ℕ) (parsed : Parsed) → parsed ≡ Breaks Deep (drop place text) → IsBroken place text (fault_behind found Deep place) parsed
-broken_deep place text None parsed e = (omega arith, e)
-broken_deep place text (Some dot) parsed e = (omega arith, e)
+tells_frame : (trees : List Tree) (limit : ℕ) (bytes : List ℕ) (what : ScanKind) (fault : TextFault) (parsed : Parsed) (frame : Frame) → IsFrameWithin limit frame → Tells limit bytes what fault parsed →
+    Tells limit bytes what (told_or (told_by frame what) fault) (framed trees bytes frame parsed)
+tells_frame trees limit bytes what fault parsed Whole h t = t
+tells_frame trees limit bytes what fault parsed (Inner depth) h t = tells_kept limit bytes what fault parsed (with_rest list_from depth) (λ told unknown from. refl) t
+tells_frame trees limit bytes what fault parsed (Element (form.Tree node)) h t = tells_kept limit bytes what fault parsed (behind (Names (tree_at trees node.0))) (λ told unknown from. refl) t
+tells_frame trees limit bytes what fault parsed (Element (form.Unknown name)) h t = tells_name limit bytes what fault parsed name h t
+tells_frame trees limit bytes what fault parsed (Dot place) h t =
+    elim (is_deep what) as (λ b. is_deep what ≡ b → Tells limit bytes what (told_or (told_by (Dot place) what) fault) (last_form (drop place bytes) parsed)) [
+      | true ↦ (λ e. let is = deep what e in subst (λ k. Tells limit bytes k (told_or (told_by (Dot place) k) fault) (last_form (drop place bytes) parsed)) (sym is) (tells_deep limit bytes fault parsed place (subst (λ k. Tells limit bytes k fault parsed) is t)))
+      | false ↦ (λ e. subst (λ o. Tells limit bytes what (told_or o fault) (last_form (drop place bytes) parsed)) (sym ((shallow what e).told place)) (tells_dot limit bytes what fault parsed place h e t))
+    ] refl
 
--- What is wrong at this place is told behind the open dots.
-pub breaks : (trees : List Tree) (text : List ℕ) (frames : List Frame) (awaited : Mode) (what : ScanKind) (place : ℕ) → AreDotsWithin place frames → IsDotWithin place awaited →
-    IsBroken place text (fault_behind (first_dot frames (dot_of awaited)) what place) (resumed trees text frames (dotted text (dot_of awaited) (Breaks what (drop place text))))
-breaks trees text frames awaited Deep place h d = broken_deep place text (first_dot frames (dot_of awaited)) _ (deep trees text frames (dot_of awaited) (drop place text))
-breaks trees text frames awaited End place h d = broken_by place text (first_dot frames (dot_of awaited)) End _ (λ e. cc) (first_within place frames (dot_of awaited) h (mode_within place awaited d)) (shallow trees text frames (dot_of awaited) End (drop place text) (λ e. cc))
-breaks trees text frames awaited Close place h d = broken_by place text (first_dot frames (dot_of awaited)) Close _ (λ e. cc) (first_within place frames (dot_of awaited) h (mode_within place awaited d)) (shallow trees text frames (dot_of awaited) Close (drop place text) (λ e. cc))
-breaks trees text frames awaited kind.Dot place h d = broken_by place text (first_dot frames (dot_of awaited)) kind.Dot _ (λ e. cc) (first_within place frames (dot_of awaited) h (mode_within place awaited d)) (shallow trees text frames (dot_of awaited) kind.Dot (drop place text) (λ e. cc))
-breaks trees text frames awaited Hex place h d = broken_by place text (first_dot frames (dot_of awaited)) Hex _ (λ e. cc) (first_within place frames (dot_of awaited) h (mode_within place awaited d)) (shallow trees text frames (dot_of awaited) Hex (drop place text) (λ e. cc))
-breaks trees text frames awaited Number place h d = broken_by place text (first_dot frames (dot_of awaited)) Number _ (λ e. cc) (first_within place frames (dot_of awaited) h (mode_within place awaited d)) (shallow trees text frames (dot_of awaited) Number (drop place text) (λ e. cc))
-breaks trees text frames awaited Text place h d = broken_by place text (first_dot frames (dot_of awaited)) Text _ (λ e. cc) (first_within place frames (dot_of awaited) h (mode_within place awaited d)) (shallow trees text frames (dot_of awaited) Text (drop place text) (λ e. cc))
-breaks trees text frames awaited Byte place h d = broken_by place text (first_dot frames (dot_of awaited)) Byte _ (λ e. cc) (first_within place frames (dot_of awaited) h (mode_within place awaited d)) (shallow trees text frames (dot_of awaited) Byte (drop place text) (λ e. cc))
+tells : (trees : List Tree) (limit : ℕ) (bytes : List ℕ) (what : ScanKind) (place : ℕ) (frames : List Frame) → place ≤ limit → AreWithin limit frames →
+    Tells limit bytes what (fault_behind frames what place) (resumed trees bytes frames (Breaks what None (drop place bytes)))
+tells trees limit bytes what place [] le h = (le, refl, refl)
+tells trees limit bytes what place (f ∷ frames) le h =
+    tells_frame trees limit bytes what (fault_behind frames what place) (resumed trees bytes frames (Breaks what None (drop place bytes))) f h.0 (tells trees limit bytes what place frames le h.1)
+
+tells_broken : (limit : ℕ) (bytes : List ℕ) (what : ScanKind) (fault : TextFault) (parsed : Parsed) → Tells limit bytes what fault parsed → IsBroken limit bytes fault parsed
+tells_broken limit bytes what (Read told place) parsed h = (h.0, h.1)
+tells_broken limit bytes what (Name place) parsed h = (h.0, record { what = h.1.told; from = h.1.from; is = h.1.is })
+tells_broken limit bytes what (Left place) parsed h = absurd h
+tells_broken limit bytes what OutOfMemory parsed h = tt
+
+-- what is read where something is wrong
+abbrev pub refused : List ℕ → Mode → ScanKind → List ℕ → Parsed
+refused bytes (mode.Form depth) what from = Breaks what None from
+refused bytes (mode.List depth begun) what from = Breaks what None from
+refused bytes (mode.Close last dot) what from = Breaks kind.Dot None (drop dot bytes)
+
+-- What is wrong at this place is told behind the frames.
+pub breaks : (trees : List Tree) (bytes : List ℕ) (frames : List Frame) (awaited : Mode) (what : ScanKind) (place : ℕ) → AreWithin place frames → IsModeWithin place awaited →
+    IsBroken place bytes (fault_in frames awaited what place) (resumed trees bytes frames (refused bytes awaited what (drop place bytes)))
+breaks trees bytes frames (mode.Form depth) what place h m = tells_broken place bytes what (fault_behind frames what place) _ (tells trees place bytes what place frames (omega arith) h)
+breaks trees bytes frames (mode.List depth begun) what place h m = tells_broken place bytes what (fault_behind frames what place) _ (tells trees place bytes what place frames (omega arith) h)
+breaks trees bytes frames (mode.Close last dot) what place h m = tells_broken place bytes kind.Dot (fault_behind frames kind.Dot dot) _ (tells trees place bytes kind.Dot dot frames m.1 h)

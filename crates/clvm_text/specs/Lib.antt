@@ -1,4 +1,5 @@
 pub mod Positions
 pub mod Leaves
+pub mod Forms
 pub mod Frames
 pub mod Scans

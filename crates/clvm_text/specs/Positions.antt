@@ -1,4 +1,4 @@
--- What is to be printed of nodes.
+-- What is to be printed of nodes. This project's own.
 use Rattle.std.specs.Prelude.{ℕ, List, [], ◌∷◌, ◌++◌, codes}
 use Rattle.clvm_spec.specs.Tree.{Tree}
 use Rattle.clvm_spec.specs.Text as text

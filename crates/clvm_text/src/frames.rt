@@ -1,13 +1,15 @@
 //! How a text is read, token by token, with the lists that are open.
 
-ghost use Rattle.std.specs.Prelude.{◌≡◌, ◌+◌, ◌<◌, ◌≤◌, ◌^◌, List, length, Some, option_map, MatchOption, IfOk, IfErr, OnOk, OnErr};
+ghost use Rattle.std.specs.Prelude.{◌≡◌, ℕ, ◌+◌, ◌<◌, ◌≤◌, ◌^◌, List, length, Some, option_map, MatchOption, IfOk, IfErr, OnOk, OnErr};
 ghost use Rattle.clvm_spec.specs.Tree.{Tree, Atom};
 ghost use Rattle.clvm_spec.specs.Tokens as tokens;
+ghost use Rattle.clvm_spec.specs.Text.{paired};
 ghost use Rattle.clvm_spec.specs.OperatorTable.{operator_named};
-ghost use Rattle.clvm_tree.specs.Nodes.{tree_at, IsKnown, Grows, Adds};
+ghost use Rattle.clvm_tree.specs.Nodes.{Grows, Adds};
 ghost use Rattle.text_tokens.specs.Meanings.{literal_bytes, meant};
-ghost use Rattle.clvm_text.specs.Leaves.{token_of_leaf, leaf_tree};
-ghost use Rattle.clvm_text.specs.Frames.{AreBegun, IsMode, AreDotsWithin, IsDotWithin, elements, first_dot, dot_of, fault_behind, depth_in, list_frame, begun_in, IsForm, Ends, Settles, Places, Takes, Stops};
+ghost use Rattle.clvm_text.specs.Forms.{formed, IsKnownForm, IsFormWithin, Makes};
+ghost use Rattle.clvm_text.specs.Leaves.{token_of_leaf, leaf_form};
+ghost use Rattle.clvm_text.specs.Frames.{AreBegun, IsMode, AreWithin, IsModeWithin, elements, told_by, fault_behind, fault_in, depth_in, list_frame, begun_in, IsForm, Ends, Settles, Places, Takes, Stops};
 
 use crate::TextFault;
 use case_table::code_of;
@@ -22,13 +24,20 @@ pub(crate) enum Leaf<'a> {
     Symbol(&'a [u8]),
 }
 
+/// A form: its tree, or the place of its first symbol that is no operator's name.
+#[derive(Clone, Copy, Debug)]
+pub(crate) enum Form {
+    Tree(Node),
+    Unknown(u32),
+}
+
 /// What is begun: a list that is the form awaited, or one that is an element of a list at this depth; an element before
 /// what follows it in its list; a dot at its place.
 #[derive(Clone, Copy, Debug)]
 pub(crate) enum Frame {
     Whole,
     Inner(u32),
-    Element(Node),
+    Element(Form),
     Dot(u32),
 }
 
@@ -38,59 +47,54 @@ pub(crate) enum Frame {
 pub(crate) enum Mode {
     Form(u32),
     List(u32, bool),
-    Close(Node, u32),
+    Close(Form, u32),
 }
 
 /// After a token: the whole form, or how it goes on.
 #[derive(Clone, Copy, Debug)]
 pub(crate) enum Step {
-    Done(Node),
+    Done(Form),
     Goes(Mode),
 }
 
-// The place of the outermost open dot.
-fn first_dot(frames: &[Frame], last: Option<u32>) -> Option<u32>
-    ensures { result ≡ first_dot frames.now last }
+// The fault that the frame tells in place of one behind it: an unknown name stands before that, and what is wrong behind
+// a dot is the dot's fault, but nesting too deep.
+fn told_by(frame: Frame, kind: ScanKind) -> Option<TextFault>
+    ensures { result ≡ told_by frame kind }
 {
-    let mut rest = frames;
-    'frames: while let [frame, above @ ..] = rest {
-        if let Frame::Dot(place) = frame {
-            return Some(*place);
-        }
-        rest = above;
-    }
-    last
-}
-
-fn dot_of(mode: Mode) -> Option<u32>
-    ensures { result ≡ dot_of mode }
-{
-    match mode {
-        Mode::Close(_, place) => Some(place),
+    match (frame, kind) {
+        (Frame::Element(Form::Unknown(name)), _) => Some(TextFault::Name(name)),
+        (Frame::Dot(_), ScanKind::Deep) => None,
+        (Frame::Dot(dot), _) => Some(TextFault::Read(ScanKind::Dot, dot)),
         _ => None,
     }
 }
 
-// What is wrong behind an open dot is the dot's fault, but nesting too deep.
-fn fault_behind(dot: Option<u32>, kind: ScanKind, place: u32) -> TextFault
-    ensures { result ≡ fault_behind dot kind place }
+fn fault_behind(frames: &[Frame], kind: ScanKind, place: u32) -> TextFault
+    ensures { result ≡ fault_behind frames.now kind place }
 {
-    match (dot, kind) {
-        (Some(_), ScanKind::Deep) => TextFault::Read(ScanKind::Deep, place),
-        (Some(dot), _) => TextFault::Read(ScanKind::Dot, dot),
-        (None, _) => TextFault::Read(kind, place),
+    let mut rest = frames;
+    'frames: while let [frame, above @ ..] = rest {
+        if let Some(fault) = told_by(*frame, kind) {
+            return fault;
+        }
+        rest = above;
+    }
+    TextFault::Read(kind, place)
+}
+
+/// The first fault, where something is wrong at this place.
+pub(crate) fn fault(frames: &[Frame], mode: Mode, kind: ScanKind, place: u32) -> TextFault
+    ensures { result ≡ fault_in frames.now mode kind place }
+{
+    match mode {
+        Mode::Close(_, dot) => fault_behind(frames, ScanKind::Dot, dot),
+        _ => fault_behind(frames, kind, place),
     }
 }
 
-/// What is wrong at this place.
-pub(crate) fn fault(frames: &[Frame], mode: Mode, kind: ScanKind, place: u32) -> TextFault
-    ensures { result ≡ fault_behind (first_dot frames.now (dot_of mode)) kind place }
-{
-    fault_behind(first_dot(frames, dot_of(mode)), kind, place)
-}
-
-/// The code of an operator's name.
-pub(crate) fn symbol_code(name: &[u8]) -> Option<u8>
+// The code of an operator's name.
+fn symbol_code(name: &[u8]) -> Option<u8>
     ensures { result ≡ option_map (λ row. row.code) (operator_named name.now) }
 {
     match std::str::from_utf8(name) {
@@ -114,18 +118,34 @@ fn put_literal(alloc: Global, trees: &mut Trees, literal: Literal<'_>) -> Result
     }
 }
 
-// A symbol that is no operator's name stands for nil.
-fn put(alloc: Global, trees: &mut Trees, leaf: Leaf<'_>) -> Result<Node, OutOfMemory>
+fn put(alloc: Global, trees: &mut Trees, leaf: Leaf<'_>, place: u32) -> Result<Form, OutOfMemory>
     requires fits { length trees.old + 1 < 2 ^ 31 }
-    ensures ok { IfOk result (λ node. Adds trees.old trees.new node.0 (leaf_tree leaf.entry)) }
+    ensures made { IfOk result (λ form. Makes trees.old trees.new form (leaf_form place leaf.entry)) }
+    ensures within { IfOk result (IsFormWithin place) }
     ensures out_of_memory { OnErr result (trees.new ≡ trees.old) }
 {
     match leaf {
-        Leaf::Literal(literal) => put_literal(alloc, trees, literal),
+        Leaf::Literal(literal) => Ok(Form::Tree(put_literal(alloc, trees, literal)?)),
         Leaf::Symbol(name) => match symbol_code(name) {
-            Some(code) => trees.atom(alloc, &[code]),
-            None => Ok(trees.nil()),
+            Some(code) => Ok(Form::Tree(trees.atom(alloc, &[code])?)),
+            None => Ok(Form::Unknown(place)),
         },
+    }
+}
+
+// An element and what follows it.
+fn pair(alloc: Global, trees: &mut Trees, first: Form, rest: Form) -> Result<Form, OutOfMemory>
+    requires first_known { IsKnownForm trees.old first }
+    requires rest_known { IsKnownForm trees.old rest }
+    requires fits { length trees.old + 1 < 2 ^ 31 }
+    ensures made { IfOk result (λ form. Makes trees.old trees.new form (λ text. paired (formed trees.old text first) (formed trees.old text rest))) }
+    ensures within { IfOk result (λ form. (limit : ℕ) → IsFormWithin limit first → IsFormWithin limit rest → IsFormWithin limit form) }
+    ensures out_of_memory { OnErr result (trees.new ≡ trees.old) }
+{
+    match (first, rest) {
+        (Form::Tree(first), Form::Tree(rest)) => Ok(Form::Tree(trees.pair(alloc, first, rest)?)),
+        (Form::Tree(_), Form::Unknown(_)) => Ok(rest),
+        (Form::Unknown(_), _) => Ok(first),
     }
 }
 
@@ -134,19 +154,19 @@ fn settle(
     alloc: Global,
     trees: &mut Trees,
     frames: &mut Vec<Frame>,
-    tree: Node,
+    form: Form,
 ) -> Result<Step, OutOfMemory>
-    requires known { IsKnown trees.old tree.0 }
+    requires known { IsKnownForm trees.old form }
     requires begun { AreBegun trees.old frames.old.items }
     requires fits { length trees.old + elements frames.old.items < 2 ^ 31 }
     ensures grows { Grows trees.old trees.new }
     ensures few { length trees.new + elements frames.new.items ≤ length trees.old + elements frames.old.items + 1 }
-    ensures settles { IfOk result (Settles trees.old frames.old.items (tree_at trees.old tree.0) trees.new frames.new.items) }
+    ensures settles { IfOk result (Settles trees.old frames.old.items form trees.new frames.new.items) }
 {
-    let mut whole = tree;
+    let mut whole = form;
     'frames: while let Some(frame) = frames.pop() {
         match frame {
-            Frame::Element(first) => whole = trees.pair(alloc, first, whole)?,
+            Frame::Element(first) => whole = pair(alloc, trees, first, whole)?,
             Frame::Whole => {}
             Frame::Inner(depth) => {
                 frames.push(Frame::Element(whole))?;
@@ -190,22 +210,22 @@ fn begun_in(mode: Mode) -> Option<u32>
 }
 
 // What a `)` ends: a list so far, or the form behind a dot.
-fn ended_in(trees: &Trees, mode: Mode) -> Option<Node>
+fn ended_in(trees: &Trees, mode: Mode) -> Option<Form>
     requires { IsMode trees.now mode }
-    ensures { MatchOption result (IsForm mode) (λ tree. Ends trees.now mode tree.0) }
+    ensures { MatchOption result (IsForm mode) (Ends trees.now mode) }
 {
     match mode {
         Mode::Form(_) => None,
-        Mode::List(_, _) => Some(trees.nil()),
-        Mode::Close(tree, _) => Some(tree),
+        Mode::List(_, _) => Some(Form::Tree(trees.nil())),
+        Mode::Close(form, _) => Some(form),
     }
 }
 
 // Behind `(` stands what is in a list.
 fn open(frames: &mut Vec<Frame>, mode: Mode, place: u32) -> Result<Step, TextFault>
     ensures few { elements frames.new.items ≤ elements frames.old.items }
-    ensures takes { IfOk result (λ step. (trees : List Tree) → AreBegun trees frames.old.items → AreDotsWithin place frames.old.items → Takes trees frames.old.items mode place tokens.Opening trees frames.new.items step) }
-    ensures stops { IfErr result (λ fault. (trees : List Tree) → AreDotsWithin place frames.old.items → IsDotWithin place mode → Stops trees frames.old.items mode place tokens.Opening fault) }
+    ensures takes { IfOk result (λ step. (trees : List Tree) → AreBegun trees frames.old.items → AreWithin place frames.old.items → Takes trees frames.old.items mode place tokens.Opening trees frames.new.items step) }
+    ensures stops { IfErr result (λ fault. (trees : List Tree) → AreWithin place frames.old.items → IsModeWithin place mode → Stops trees frames.old.items mode place tokens.Opening fault) }
 {
     match depth_in(mode) {
         Some(depth) => {
@@ -222,8 +242,8 @@ fn open(frames: &mut Vec<Frame>, mode: Mode, place: u32) -> Result<Step, TextFau
 // Behind a dot stands the last form.
 fn point(frames: &mut Vec<Frame>, mode: Mode, place: u32) -> Result<Step, TextFault>
     ensures few { elements frames.new.items ≤ elements frames.old.items }
-    ensures takes { IfOk result (λ step. (trees : List Tree) → AreBegun trees frames.old.items → AreDotsWithin place frames.old.items → Takes trees frames.old.items mode place tokens.Point trees frames.new.items step) }
-    ensures stops { IfErr result (λ fault. (trees : List Tree) → AreDotsWithin place frames.old.items → IsDotWithin place mode → Stops trees frames.old.items mode place tokens.Point fault) }
+    ensures takes { IfOk result (λ step. (trees : List Tree) → AreBegun trees frames.old.items → AreWithin place frames.old.items → Takes trees frames.old.items mode place tokens.Point trees frames.new.items step) }
+    ensures stops { IfErr result (λ fault. (trees : List Tree) → AreWithin place frames.old.items → IsModeWithin place mode → Stops trees frames.old.items mode place tokens.Point fault) }
 {
     match begun_in(mode) {
         Some(depth) => {
@@ -244,8 +264,8 @@ fn close(
 ) -> Result<Step, TextFault>
     requires begun { AreBegun trees.old frames.old.items }
     requires known { IsMode trees.old mode }
-    requires dots { AreDotsWithin place frames.old.items }
-    requires dot { IsDotWithin place mode }
+    requires within { AreWithin place frames.old.items }
+    requires mode_within { IsModeWithin place mode }
     requires fits { length trees.old + elements frames.old.items < 2 ^ 31 }
     ensures grows { Grows trees.old trees.new }
     ensures few { length trees.new + elements frames.new.items ≤ length trees.old + elements frames.old.items + 1 }
@@ -253,7 +273,7 @@ fn close(
     ensures stops { IfErr result (Stops trees.old frames.old.items mode place tokens.Closing) }
 {
     match ended_in(trees, mode) {
-        Some(tree) => match settle(alloc, trees, frames, tree) {
+        Some(form) => match settle(alloc, trees, frames, form) {
             Ok(step) => Ok(step),
             Err(_) => Err(TextFault::OutOfMemory),
         },
@@ -268,23 +288,23 @@ fn place_form(
     frames: &mut Vec<Frame>,
     mode: Mode,
     depth: u32,
-    tree: Node,
+    form: Form,
 ) -> Result<Step, TextFault>
     requires begun { AreBegun trees.old frames.old.items }
-    requires known { IsKnown trees.old tree.0 }
+    requires known { IsKnownForm trees.old form }
     requires depth { depth_in mode ≡ Some depth }
     requires fits { length trees.old + elements frames.old.items < 2 ^ 31 }
     ensures grows { Grows trees.old trees.new }
     ensures few { length trees.new + elements frames.new.items ≤ length trees.old + elements frames.old.items + 1 }
-    ensures places { IfOk result (Places trees.old frames.old.items mode (tree_at trees.old tree.0) trees.new frames.new.items) }
+    ensures places { IfOk result (Places trees.old frames.old.items mode form trees.new frames.new.items) }
     ensures fault { IfErr result (λ fault. fault ≡ TextFault.OutOfMemory) }
 {
     match mode {
         Mode::List(_, _) => {
-            frames.push(Frame::Element(tree))?;
+            frames.push(Frame::Element(form))?;
             Ok(Step::Goes(Mode::List(depth, true)))
         }
-        _ => match settle(alloc, trees, frames, tree) {
+        _ => match settle(alloc, trees, frames, form) {
             Ok(step) => Ok(step),
             Err(_) => Err(TextFault::OutOfMemory),
         },
@@ -302,8 +322,8 @@ fn take(
 ) -> Result<Step, TextFault>
     requires begun { AreBegun trees.old frames.old.items }
     requires known { IsMode trees.old mode }
-    requires dots { AreDotsWithin place frames.old.items }
-    requires dot { IsDotWithin place mode }
+    requires within { AreWithin place frames.old.items }
+    requires mode_within { IsModeWithin place mode }
     requires fits { length trees.old + elements frames.old.items + 1 < 2 ^ 31 }
     ensures grows { Grows trees.old trees.new }
     ensures few { length trees.new + elements frames.new.items ≤ length trees.old + elements frames.old.items + 2 }
@@ -312,8 +332,8 @@ fn take(
 {
     match depth_in(mode) {
         Some(depth) => {
-            let tree = put(alloc, trees, leaf)?;
-            place_form(alloc, trees, frames, mode, depth, tree)
+            let form = put(alloc, trees, leaf, place)?;
+            place_form(alloc, trees, frames, mode, depth, form)
         }
         None => Err(fault(frames.as_slice(), mode, ScanKind::Dot, place)),
     }
@@ -330,8 +350,8 @@ pub(crate) fn advance(
 ) -> Result<Step, TextFault>
     requires begun { AreBegun trees.old frames.old.items }
     requires known { IsMode trees.old mode }
-    requires dots { AreDotsWithin place frames.old.items }
-    requires dot { IsDotWithin place mode }
+    requires within { AreWithin place frames.old.items }
+    requires mode_within { IsModeWithin place mode }
     requires fits { length trees.old + elements frames.old.items + 1 < 2 ^ 31 }
     ensures grows { Grows trees.old trees.new }
     ensures few { length trees.new + elements frames.new.items ≤ length trees.old + elements frames.old.items + 2 }

@@ -108,6 +108,8 @@ fn tells_the_first_fault(rt: HostRuntime) {
         ("foo", TextFault::Name(0)),
         ("(1 . foo)", TextFault::Name(5)),
         ("(1 . foo 0x5)", TextFault::Read(ScanKind::Dot, 3)),
+        ("((1 . foo) 0x5)", TextFault::Name(6)),
+        ("(foo bar (1 . ))", TextFault::Name(1)),
         ("(1))", TextFault::Left(3)),
         ("1 foo", TextFault::Left(2)),
         ("1 0x", TextFault::Read(ScanKind::Hex, 2)),

@@ -1,7 +1,9 @@
 pub mod NodeLaws
 pub mod ArenaLaws
-pub mod MarkLaws
+pub mod UseLaws
+pub mod ReadyLaws
 pub mod ResumeLaws
 pub mod DigitLaws
 pub mod PendingLaws
 pub mod OperatorLaws
+pub mod WholeLaws

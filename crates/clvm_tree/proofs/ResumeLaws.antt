@@ -3,14 +3,13 @@ use Rattle.std.proofs.Common.{◌≡◌, ℕ, ◌-◌, ◌<◌, ◌≤◌, List,
 use Rattle.std.proofs.lemmas.List.{length-drop, append_cancel_right, take-append-drop}
 use Rattle.std.proofs.lemmas.Bool.{cases_lt}
 use Rattle.clvm_spec.specs.Tree.{Tree}
-use Rattle.clvm_spec.specs.Reading.{Flaw, Cut, Flawed, Read, Faulty, with_first, with_both, head_at, tree_at_front, Found}
-use Rattle.clvm_spec.proofs.HeadLaws.{flaw_has_byte}
+use Rattle.clvm_spec.specs.Reading.{Flaw, Flawed, Read, Faulty, with_first, with_both, head_at, tree_at_front, Found, HasFlaw, front_of, front_read}
 use Rattle.clvm_spec.proofs.FrontLaws.{front_flawed}
 use Rattle.std.specs.Int.Digits.{AllBelowBase}
 use Rattle.clvm_spec.specs.Spelling.{spelling, Spells}
 use Rattle.clvm_spec.proofs.FaultLaws.{found_is_spelled}
 use Rattle.clvm_tree.specs.Nodes.{tree_at, Grows}
-use Rattle.clvm_tree.specs.Reads.{resumed, AreOpen, Closes, HasFlawAt}
+use Rattle.clvm_tree.specs.Reads.{resumed, AreOpen, Closes}
 use Rattle.clvm_tree.specs.declared.Node.{Node}
 use Rattle.clvm_tree.proofs.NodeLaws.{stays, grows_length}
 
@@ -75,13 +74,9 @@ pub closes_none : (old new : List Tree) (begun still : List (Option Node)) (tree
 closes_none old new begun still tree result is h = subst (Closes old begun tree new still) is h
 
 -- A flaw where a head must stand is the flaw of all.
-pub flaw_at : (trees : List Tree) (begun : List (Option Node)) (bytes rest : List ℕ) (flaw : Flaw) (k : ℕ) → rest ≡ drop k bytes → length rest ≤ length bytes → tree_at_front bytes ≡ resumed trees begun (tree_at_front rest) → head_at rest ≡ Flawed flaw → (flaw ≡ Cut → ⊥) → HasFlawAt bytes flaw (length bytes - length rest)
-flaw_at trees begun bytes rest flaw k suffix within same head not_cut =
-    let some = flaw_has_byte rest flaw head not_cut in
-    record {
-      within = omega (arith, some, within);
-      found = same ∙ ap (resumed trees begun) (front_flawed rest flaw head) ∙ resumed-faulty trees begun flaw rest ∙ ap (Faulty flaw) (drop_by_length bytes rest k suffix);
-    }
+pub flaw_at : (trees : List Tree) (begun : List (Option Node)) (bytes rest : List ℕ) (flaw : Flaw) → tree_at_front bytes ≡ resumed trees begun (tree_at_front rest) → head_at rest ≡ Flawed flaw → front_read bytes ≡ HasFlaw flaw (length bytes - length rest)
+flaw_at trees begun bytes rest flaw same head =
+    ap (front_of bytes) (same ∙ ap (resumed trees begun) (front_flawed rest flaw head) ∙ resumed-faulty trees begun flaw rest)
 
 -- What stands before the rest spells the tree that is found.
 pub spelled_front : (bytes : List ℕ) (tree : Tree) (count : ℕ) → AllBelowBase 256 bytes → tree_at_front bytes ≡ Found tree (drop count bytes) → Spells tree (take count bytes)

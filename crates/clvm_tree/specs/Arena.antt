@@ -1,4 +1,4 @@
--- The trees that the entries of an arena stand for. Nil and the atom 01 stand before the entries.
+-- The trees that the entries of an arena stand for. Nil and the atom 01 stand before the entries. This project's own.
 use Rattle.std.specs.Prelude.{ℕ, suc, ◌+◌, ◌^◌, ◌<◌, ◌≤◌, List, [], ◌∷◌, ◌++◌, length, slice_range}
 use Rattle.clvm_spec.specs.Tree.{Tree, Atom, Pair, nil}
 use Rattle.clvm_tree.specs.Nodes.{tree_at}

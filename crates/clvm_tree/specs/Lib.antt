@@ -1,7 +1,8 @@
 pub mod Nodes
 pub mod Sights
 pub mod Arena
-pub mod Marks
+pub mod Kept
+pub mod Uses
 pub mod ByteHashes
 pub mod Pieces
 pub mod Reads

@@ -1,11 +1,11 @@
--- The numbers of nodes.
-use Rattle.std.specs.Prelude.{ℤ, Option, Some, None, List, ℕ, length, nat_le, if◌then◌else◌}
+-- The numbers of nodes. This project's own.
+use Rattle.std.specs.Prelude.{ℤ, Option, Some, None, List, ℕ, if◌then◌else◌}
 use Rattle.clvm_spec.specs.Tree.{Tree, Atom, Pair}
-use Rattle.clvm_spec.specs.Numbers.{number}
+use Rattle.clvm_spec.specs.Numbers.{number, is_short}
 
 -- the number of bytes, of which there are at most 16
 abbrev pub short_number : List ℕ → Option ℤ
-short_number bytes = if nat_le (length bytes) 16 then Some (number bytes) else None
+short_number bytes = if is_short bytes then Some (number bytes) else None
 
 -- the number of an atom of at most 16 bytes. A pair has none, nor has a longer atom.
 abbrev pub number_in : Tree → Option ℤ

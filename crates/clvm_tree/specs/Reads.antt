@@ -1,8 +1,8 @@
--- What the calls that read a tree answer, by what stands at the front of the bytes.
-use Rattle.std.specs.Prelude.{◌≡◌, ℕ, ◌<◌, ◌≤◌, List, [], ◌∷◌, length, take, drop, Option, Some, None}
+-- What the calls that read a tree answer, by what stands at the front of the bytes. This project's own.
+use Rattle.std.specs.Prelude.{◌≡◌, ℕ, ◌≤◌, List, [], ◌∷◌, length, take, Option, Some, None}
 use Rattle.clvm_spec.specs.Tree.{Tree}
 use Rattle.clvm_spec.specs.Spelling.{Spells}
-use Rattle.clvm_spec.specs.Reading.{Flaw, Read, Found, Faulty, with_first, with_both, tree_at_front}
+use Rattle.clvm_spec.specs.Reading.{Read, Found, Faulty, with_first, with_both, tree_at_front, HasTree, HasFlaw, front_read, IsFlawed, IsLonger, whole_read}
 use Rattle.clvm_spec.specs.Reading
 use Rattle.clvm_tree.specs.Nodes.{tree_at, IsKnown}
 use Rattle.clvm_tree.specs.declared.Node.{Node}
@@ -13,32 +13,23 @@ use Rattle.clvm_tree.specs.declared.ReadFault.TheVariants.{Cut, LongSpelling, Ba
 pub record IsReadAs (trees : List Tree) (bytes : List ℕ) (node count : ℕ) : Type 0 where
   pub known : IsKnown trees node
   pub within : count ≤ length bytes
-  pub found : tree_at_front bytes ≡ Found (tree_at trees node) (drop count bytes)
+  pub read : front_read bytes ≡ HasTree (tree_at trees node) count
   pub spelled : Spells (tree_at trees node) (take count bytes)
 
--- A reader who walks from the front first meets this flaw, at this place.
-pub record HasFlawAt (bytes : List ℕ) (flaw : Flaw) (place : ℕ) : Type 0 where
-  pub within : place < length bytes
-  pub found : tree_at_front bytes ≡ Faulty flaw (drop place bytes)
-
+-- The fault is the first flaw that a reader meets who walks from the front.
 abbrev pub IsReadFault : List ℕ → ReadFault → Type 0
-IsReadFault bytes Cut = (rest : List ℕ) × (tree_at_front bytes ≡ Faulty Reading.Cut rest)
-IsReadFault bytes (LongSpelling place) = HasFlawAt bytes Reading.LongSpelling place
-IsReadFault bytes (BadPrefix place) = HasFlawAt bytes Reading.BadPrefix place
+IsReadFault bytes Cut = (place : ℕ) × (front_read bytes ≡ HasFlaw Reading.Cut place)
+IsReadFault bytes (LongSpelling place) = front_read bytes ≡ HasFlaw Reading.LongSpelling place
+IsReadFault bytes (BadPrefix place) = front_read bytes ≡ HasFlaw Reading.BadPrefix place
 IsReadFault bytes (Left place) = ⊥
 IsReadFault bytes OutOfMemory = Unit {0}
 
--- A tree stands at the front, and more bytes behind it from this place on.
-pub record EndsAt (bytes : List ℕ) (place : ℕ) : Type 0 where
-  pub tree : Tree
-  pub within : place < length bytes
-  pub found : tree_at_front bytes ≡ Found tree (drop place bytes)
-
+-- the same where the tree is to be all of the bytes
 abbrev pub IsWholeFault : List ℕ → ReadFault → Type 0
-IsWholeFault bytes Cut = IsReadFault bytes Cut
-IsWholeFault bytes (LongSpelling place) = IsReadFault bytes (LongSpelling place)
-IsWholeFault bytes (BadPrefix place) = IsReadFault bytes (BadPrefix place)
-IsWholeFault bytes (Left place) = EndsAt bytes place
+IsWholeFault bytes Cut = (place : ℕ) × (whole_read bytes ≡ IsFlawed Reading.Cut place)
+IsWholeFault bytes (LongSpelling place) = whole_read bytes ≡ IsFlawed Reading.LongSpelling place
+IsWholeFault bytes (BadPrefix place) = whole_read bytes ≡ IsFlawed Reading.BadPrefix place
+IsWholeFault bytes (Left place) = whole_read bytes ≡ IsLonger place
 IsWholeFault bytes OutOfMemory = Unit {0}
 
 -- what is read in all, where pairs are open, the outermost first: of each nothing yet, or its first

@@ -1,4 +1,4 @@
--- What is to be written of nodes.
+-- What is to be written of nodes. This project's own.
 use Rattle.std.specs.Prelude.{ℕ, ◌≤◌, List, [], ◌∷◌, ◌++◌, length}
 use Rattle.clvm_spec.specs.Tree.{Tree}
 use Rattle.clvm_spec.specs.Spelling.{spelling, HasSpelling}

@@ -1,5 +1,5 @@
 ghost use Rattle.std.specs.Prelude.{◌≡◌, [], ◌∷◌};
-ghost use Rattle.sha2.specs.Sha256.{sha256};
+ghost use Rattle.clvm_spec.specs.Hashing.{atom_hash};
 ghost use Rattle.clvm_tree.specs.ByteHashes.{AreByteHashes};
 
 use crate::hasher::{Hash, atom_hash};
@@ -19,7 +19,7 @@ impl ByteHashes {
 
     /// The tree hash of the atom of these bytes.
     pub(crate) fn atom_hash(&mut self, bytes: &[u8]) -> Hash
-        ensures { result ≡ sha256 (1 ∷ bytes.now) }
+        ensures { result ≡ atom_hash bytes.now }
     {
         match bytes {
             [byte] => self.byte_hash(*byte),
@@ -28,7 +28,7 @@ impl ByteHashes {
     }
 
     fn byte_hash(&mut self, byte: u8) -> Hash
-        ensures { result ≡ sha256 (1 ∷ byte ∷ []) }
+        ensures { result ≡ atom_hash (byte ∷ []) }
     {
         let place = byte as usize;
         if let Some(hash) = self.known[place] {

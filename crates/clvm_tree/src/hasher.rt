@@ -1,12 +1,13 @@
-ghost use Rattle.std.specs.Prelude.{◌≡◌, ℕ, ◌+◌, ◌<◌, ◌≤◌, ◌∷◌, ◌++◌, length, IfOk, vec_len};
-ghost use Rattle.sha2.specs.Sha256.{sha256};
-ghost use Rattle.clvm_spec.specs.Hashing.{tree_hash};
+ghost use Rattle.std.specs.Prelude.{◌≡◌, ℕ, ◌+◌, ◌<◌, ◌≤◌, ◌^◌, List, ◌-◌, length, slice_index_or, IfOk, OnOk};
+ghost use Rattle.clvm_spec.specs.Tree.{Tree, Atom};
+ghost use Rattle.clvm_spec.specs.Hashing.{atom_hash, pair_hash, tree_hash};
 ghost use Rattle.clvm_tree.specs.Nodes.{tree_at, IsKnown};
 ghost use Rattle.clvm_tree.specs.Arena.{trees_of, IsArena};
-ghost use Rattle.clvm_tree.specs.Marks.{IsMarked, HasEarlierParts, MarksParts, AllEarlier, IsClosedFrom, AreHashes};
+ghost use Rattle.clvm_tree.specs.Uses.{use_of, HasUsedParts, HasEarlierParts, AllEarlier, IsClosedFrom, UsesNode, UsesParts, IsReady};
 
 use crate::arena::{Entry, Trees};
 use crate::byte_hashes::ByteHashes;
+use crate::kept::Kept;
 use crate::{Node, OutOfMemory};
 use sha2::{Digest, Sha256};
 use std::alloc::Global;
@@ -16,7 +17,7 @@ pub type Hash = [u8; 32];
 
 /// The tree hash of an atom of these bytes.
 pub fn atom_hash(bytes: &[u8]) -> Hash
-    ensures { result ≡ sha256 (1 ∷ bytes.now) }
+    ensures { result ≡ atom_hash bytes.now }
 {
     let mut hasher = Sha256::new();
     hasher.update([1u8]);
@@ -26,7 +27,7 @@ pub fn atom_hash(bytes: &[u8]) -> Hash
 
 /// The tree hash of a pair whose parts have these hashes.
 pub fn pair_hash(first: &Hash, rest: &Hash) -> Hash
-    ensures { result ≡ sha256 (2 ∷ first.now ++ rest.now) }
+    ensures { result ≡ pair_hash first.now rest.now }
 {
     let mut hasher = Sha256::new();
     hasher.update([2u8]);
@@ -35,110 +36,185 @@ pub fn pair_hash(first: &Hash, rest: &Hash) -> Hash
     hasher.finalize()
 }
 
-// Marks the parts of an entry.
-fn mark_parts(marks: &mut [bool], entry: Entry, place: usize)
-    requires earlier { HasEarlierParts place entry }
-    requires within { place < length marks.old }
-    ensures { MarksParts marks.old marks.new entry place }
+// Notes that a node is used at this place.
+fn use_node(uses: &mut [u32], node: Node, place: u32)
+    requires { node.0 < length uses.old }
+    ensures { UsesNode uses.old uses.new node.0 place }
 {
-    if let Entry::Two(first, rest) = entry {
-        marks[first.0 as usize] = true;
-        marks[rest.0 as usize] = true;
+    if uses[node.0 as usize] < place {
+        uses[node.0 as usize] = place;
     }
 }
 
-// Marks the parts of each marked node. Parts are earlier than their pairs, so one walk from the last node does.
-fn reach(entries: &[Entry], marks: &mut [bool])
-    requires earlier { AllEarlier entries.now }
-    requires long { length marks.old ≤ length entries.now + 2 }
-    ensures closed { IsClosedFrom entries.now marks.new 0 }
-    ensures marked { (k : ℕ) → IsMarked marks.old k → IsMarked marks.new k }
+// Notes that the parts of an entry are used at its place.
+fn use_parts(uses: &mut [u32], entry: Entry, place: usize)
+    requires earlier { HasEarlierParts place entry }
+    requires within { place < length uses.old }
+    requires few { length uses.old < 2 ^ 32 }
+    ensures { UsesParts uses.old uses.new entry place }
 {
-    for place in (2..marks.len()).rev() {
-        if marks[place] {
-            mark_parts(marks, entries[place - 2], place);
+    if let Entry::Two(first, rest) = entry {
+        use_node(uses, first, place as u32);
+        use_node(uses, rest, place as u32);
+    }
+}
+
+// Notes where the parts of each used node are used. Parts are earlier than their pairs, so one walk from the last node
+// does.
+fn use_all(entries: &[Entry], uses: &mut [u32])
+    requires earlier { AllEarlier entries.now }
+    requires long { length uses.old ≤ length entries.now + 2 }
+    requires few { length uses.old < 2 ^ 32 }
+    ensures long { length uses.new ≡ length uses.old }
+    ensures closed { IsClosedFrom entries.now uses.new 0 }
+    ensures kept { (k : ℕ) → use_of uses.old k ≤ use_of uses.new k }
+{
+    for place in (2..uses.len()).rev() {
+        if uses[place] > 0 {
+            use_parts(uses, entries[place - 2], place);
         }
     }
 }
 
-// Marks by place of the nodes up to this one that it reaches.
-fn reached(alloc: Global, entries: &[Entry], node: usize) -> Result<Vec<bool>, OutOfMemory>
+// Until where the nodes up to this one are used. It is itself used behind all of them.
+fn uses_up_to(alloc: Global, entries: &[Entry], node: usize) -> Result<Vec<u32>, OutOfMemory>
     requires earlier { AllEarlier entries.now }
     requires known { node < length entries.now + 2 }
-    ensures long { IfOk result (λ marks. length marks.items ≡ node + 1) }
-    ensures closed { IfOk result (λ marks. IsClosedFrom entries.now marks.items 0) }
-    ensures marked { IfOk result (λ marks. IsMarked marks.items node) }
+    requires few { length entries.now + 2 < 2 ^ 31 }
+    ensures long { IfOk result (λ uses. length uses.items ≡ node + 1) }
+    ensures closed { IfOk result (λ uses. IsClosedFrom entries.now uses.items 0) }
+    ensures used { IfOk result (λ uses. node + 1 ≤ use_of uses.items node) }
 {
-    let mut marks = vec![in alloc; false; node + 1]?;
-    marks[node] = true;
-    reach(entries, &mut marks);
-    Ok(marks)
+    let mut uses = vec![in alloc; 0; node + 1]?;
+    uses[node] = node as u32 + 1;
+    use_all(entries, &mut uses);
+    Ok(uses)
 }
 
-// The hash of a node whose parts have theirs.
-fn node_hash(
-    entries: &[Entry],
-    bytes: &[u8],
-    marks: &[bool],
-    hashes: &[Hash],
-    of_bytes: &mut ByteHashes,
-) -> Hash
+// The bytes of an atom; a pair has none.
+fn atom_at<'a>(entries: &[Entry], bytes: &'a [u8], node: Node) -> &'a [u8]
     requires arena { IsArena entries.now bytes.now }
-    requires known { length hashes.now < length entries.now + 2 }
-    requires within { length hashes.now < length marks.now }
-    requires closed { IsClosedFrom entries.now marks.now 0 }
-    requires marked { IsMarked marks.now (length hashes.now) }
-    requires earlier { AreHashes (trees_of bytes.now entries.now) marks.now hashes.now }
-    ensures { result ≡ tree_hash (tree_at (trees_of bytes.now entries.now) (length hashes.now)) }
+    requires known { node.0 < length entries.now + 2 }
+    ensures { (atom : List ℕ) → tree_at (trees_of bytes.now entries.now) node.0 ≡ Atom atom → result.now ≡ atom }
 {
-    match hashes.len() {
-        0 => atom_hash(&[]),
-        1 => atom_hash(&[1]),
-        place => match entries[place - 2] {
-            Entry::Bytes { start, end } => of_bytes.atom_hash(&bytes[start as usize..end as usize]),
-            Entry::Two(first, rest) => pair_hash(
-                &hashes[first.0 as usize],
-                &hashes[rest.0 as usize],
-            ),
+    match node.0 {
+        0 => &[],
+        1 => &[1],
+        place => match entries[place as usize - 2] {
+            Entry::Bytes { start, end } => &bytes[start as usize..end as usize],
+            Entry::Two(_, _) => &[],
         },
     }
 }
 
-// The hashes of the marked nodes by place. The others have no hash, and zeros stand for it.
-fn hashes(
+// The hash of a node that is used at this place, which is kept if it is used again.
+fn hash_at(
+    entries: &[Entry],
+    bytes: &[u8],
+    uses: &[u32],
+    kept: &mut Kept,
+    of_bytes: &mut ByteHashes,
+    node: Node,
+    place: usize,
+) -> Result<Hash, OutOfMemory>
+    requires arena { IsArena entries.now bytes.now }
+    requires known { node.0 < length entries.now + 2 }
+    requires within { node.0 < length uses.now }
+    requires earlier { node.0 < place }
+    requires used { place ≤ use_of uses.now node.0 }
+    requires ready { IsReady (trees_of bytes.now entries.now) uses.now kept.old place place }
+    ensures hash { IfOk result (λ hash. hash ≡ tree_hash (tree_at (trees_of bytes.now entries.now) node.0)) }
+    ensures ready { OnOk result (IsReady (trees_of bytes.now entries.now) uses.now kept.new place place) }
+{
+    if let Some(hash) = kept.get(node) {
+        return Ok(hash);
+    }
+    let hash = of_bytes.atom_hash(atom_at(entries, bytes, node));
+    if uses[node.0 as usize] as usize > place {
+        kept.put(node, hash)?;
+    }
+    Ok(hash)
+}
+
+// Lets the hash of a node go that was used at this place for the last time.
+fn let_go(uses: &[u32], kept: &mut Kept, node: Node, place: usize)
+    requires within { node.0 < length uses.now }
+    requires long { length kept.old.slots.items ≡ length uses.now }
+    ensures { (trees : List Tree) → IsReady trees uses.now kept.old place (place + 1) → IsReady trees uses.now kept.new place (place + 1) }
+{
+    if uses[node.0 as usize] as usize == place {
+        kept.remove(node);
+    }
+}
+
+// Hashes the pair at this place, if it is one, by the hashes of its parts.
+fn hash_pair_at(
+    entries: &[Entry],
+    bytes: &[u8],
+    uses: &[u32],
+    kept: &mut Kept,
+    of_bytes: &mut ByteHashes,
+    place: usize,
+) -> Result<(), OutOfMemory>
+    requires arena { IsArena entries.now bytes.now }
+    requires known { place < length entries.now + 2 }
+    requires entry { 2 ≤ place }
+    requires within { place < length uses.now }
+    requires parts { (d : Entry) → HasUsedParts uses.now place (slice_index_or entries.now (place - 2) d) }
+    requires ready { IsReady (trees_of bytes.now entries.now) uses.now kept.old place place }
+    ensures { OnOk result (IsReady (trees_of bytes.now entries.now) uses.now kept.new (place + 1) (place + 1)) }
+{
+    if let Entry::Two(first, rest) = entries[place - 2] {
+        let first_hash = hash_at(entries, bytes, uses, kept, of_bytes, first, place)?;
+        let rest_hash = hash_at(entries, bytes, uses, kept, of_bytes, rest, place)?;
+        let_go(uses, kept, first, place);
+        let_go(uses, kept, rest, place);
+        kept.put(Node(place as u32), pair_hash(&first_hash, &rest_hash))?;
+    }
+    Ok(())
+}
+
+// The hash of the last node that is used.
+fn last_hash(
     alloc: Global,
     entries: &[Entry],
     bytes: &[u8],
-    marks: &[bool],
-) -> Result<Vec<Hash>, OutOfMemory>
+    uses: &[u32],
+    node: Node,
+) -> Result<Hash, OutOfMemory>
     requires arena { IsArena entries.now bytes.now }
-    requires long { length marks.now ≤ length entries.now + 2 }
-    requires closed { IsClosedFrom entries.now marks.now 0 }
-    ensures long { IfOk result (λ hashes. length hashes.items ≡ length marks.now) }
-    ensures hashes { IfOk result (λ hashes. AreHashes (trees_of bytes.now entries.now) marks.now hashes.items) }
+    requires known { node.0 < length entries.now + 2 }
+    requires long { length uses.now ≡ node.0 + 1 }
+    requires closed { IsClosedFrom entries.now uses.now 0 }
+    requires used { node.0 + 1 ≤ use_of uses.now node.0 }
+    ensures { IfOk result (λ hash. hash ≡ tree_hash (tree_at (trees_of bytes.now entries.now) node.0)) }
 {
-    let mut hashes = Vec::with_capacity(alloc, marks.len())?;
+    let mut kept = Kept::new(alloc, uses.len())?;
     let mut of_bytes = ByteHashes::new();
-    for marked in marks {
-        let hash = if *marked {
-            node_hash(entries, bytes, marks, &hashes, &mut of_bytes)
-        } else {
-            [0; 32]
-        };
-        hashes.push(hash)?;
+    for place in 2..uses.len() {
+        if uses[place] > 0 {
+            hash_pair_at(entries, bytes, uses, &mut kept, &mut of_bytes, place)?;
+        }
     }
-    Ok(hashes)
+    hash_at(
+        entries,
+        bytes,
+        uses,
+        &mut kept,
+        &mut of_bytes,
+        node,
+        uses.len(),
+    )
 }
 
 impl Trees {
-    /// The tree hash of a node. Each node that it reaches is hashed once, and so is each atom of one byte.
+    /// The tree hash of a node. Each pair that it reaches is hashed once, so is each atom of one byte, and no atom more
+    /// than twice. A hash is kept until the last pair that needs it has its own.
     pub fn hash(&self, alloc: Global, node: Node) -> Result<Hash, OutOfMemory>
         requires { IsKnown self.now node.0 }
         ensures { IfOk result (λ hash. hash ≡ tree_hash (tree_at self.now node.0)) }
     {
-        let last = node.0 as usize;
-        let marks = reached(alloc, &self.entries, last)?;
-        let hashes = hashes(alloc, &self.entries, &self.bytes, &marks)?;
-        Ok(hashes[last])
+        let uses = uses_up_to(alloc, &self.entries, node.0 as usize)?;
+        last_hash(alloc, &self.entries, &self.bytes, &uses, node)
     }
 }

@@ -9,9 +9,11 @@ mod arena;
 mod byte_hashes;
 mod hasher;
 mod heads;
+mod kept;
 mod numbers;
 mod operators;
 mod reader;
+mod spelled;
 mod writer;
 
 pub use arena::{Sight, Trees};
@@ -19,6 +21,7 @@ pub use clvm_spec::{Fuel, Which};
 pub use hasher::{Hash, atom_hash, pair_hash};
 pub use numbers::{number, unsigned};
 pub use operators::{Answer, OpFault, Operators};
+pub use spelled::is_spelled;
 /// The error of a call that fails only for want of memory.
 pub use std::alloc::AllocError as OutOfMemory;
 use std::alloc::AllocFailed;

@@ -6,7 +6,7 @@ ghost use Rattle.clvm_tree.specs.Numbers.{short_number, number_in};
 
 use crate::arena::{Sight, Trees};
 use crate::{Node, OutOfMemory};
-use clvm_spec::shortest_bytes;
+use clvm_spec::number_length;
 use std::alloc::Global;
 
 /// The number that big-endian bytes write, without sign. There are at most 16 of them.
@@ -73,6 +73,6 @@ impl Trees {
         ensures out_of_memory { OnErr result (self.new ≡ self.old) }
     {
         let bytes = number.to_be_bytes();
-        self.atom(alloc, shortest_bytes(&bytes))
+        self.atom(alloc, &bytes[16 - number_length(number)..])
     }
 }

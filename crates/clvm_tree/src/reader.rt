@@ -1,7 +1,8 @@
-ghost use Rattle.std.specs.Prelude.{◌≡◌, ◌+◌, ◌<◌, ◌≤◌, ◌^◌, length, IfOk, IfErr, OnOk, vec_len};
+ghost use Rattle.std.specs.Prelude.{◌≡◌, ◌≢◌, ◌+◌, ◌<◌, ◌≤◌, ◌^◌, length, None, IfOk, IfErr, OnOk, vec_len};
 ghost use Rattle.clvm_spec.specs.Reading.{tree_of};
 ghost use Rattle.clvm_spec.specs.Spelling.{Spells};
 ghost use Rattle.clvm_tree.specs.Nodes.{tree_at, IsKnown, Grows};
+ghost use Rattle.clvm_tree.specs.declared.ReadFault.TheVariants as read_fault;
 ghost use Rattle.clvm_tree.specs.Reads.{IsReadAs, IsReadFault, IsWholeFault, AreOpen, Closes};
 
 use crate::arena::Trees;
@@ -82,6 +83,7 @@ impl Trees {
         ensures found { IfOk result (λ node. tree_of bytes.now ≡ Some (tree_at self.new node.0)) }
         ensures spelled { IfOk result (λ node. Spells (tree_at self.new node.0) bytes.now) }
         ensures fault { IfErr result (IsWholeFault bytes.now) }
+        ensures none { IfErr result (λ fault. fault ≢ read_fault.OutOfMemory → tree_of bytes.now ≡ None) }
     {
         let (tree, count) = self.read(alloc, bytes)?;
         if count < bytes.len() {

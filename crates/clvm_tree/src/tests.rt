@@ -1,7 +1,10 @@
 ghost use Rattle.std.specs.Prelude.{◌↔◌, ◌≤◌, length, IsTrue};
 ghost use Rattle.clvm_tree.specs.Nodes.{IsKnown};
 
-use crate::{Hash, Node, OutOfMemory, ReadFault, Trees, WriteFault};
+use crate::{
+    Hash, Node, OutOfMemory, ReadFault, Sight, Trees, WriteFault, is_spelled as is_one_tree,
+    pair_hash, unsigned,
+};
 use std::alloc::Global;
 
 const NIL_HASH: Hash = [
@@ -22,6 +25,12 @@ const DEEP_HASH: Hash = [
 const SHARED_HASH: Hash = [
     0x1f, 0xd4, 0x0d, 0x6c, 0xa4, 0xa9, 0x9d, 0x23, 0x49, 0x90, 0x94, 0x4e, 0x5d, 0xd1, 0x1f, 0x20,
     0x69, 0xb4, 0x89, 0x82, 0x97, 0x54, 0x18, 0xd3, 0xde, 0x30, 0x74, 0x11, 0x5c, 0x7b, 0x37, 0xc7,
+];
+
+// The hash of ff8080.
+const PAIR_OF_NILS_HASH: Hash = [
+    0x52, 0xdb, 0x9e, 0xf9, 0x79, 0x86, 0xe7, 0x38, 0x2e, 0xf7, 0x8b, 0x8e, 0xae, 0x2d, 0xac, 0xdb,
+    0xb2, 0xce, 0x82, 0x3e, 0xd1, 0x39, 0x6a, 0x0f, 0xb2, 0xf7, 0xf1, 0x20, 0xa2, 0xb4, 0x0a, 0x63,
 ];
 
 fn fault_of(alloc: Global, bytes: &[u8]) -> Option<ReadFault>
@@ -53,6 +62,24 @@ fn tells_each_fault_and_its_place(rt: HostRuntime) {
     ] {
         assert!(rt; bytes.len() < 100 && fault_of(rt.alloc(), bytes) == Some(fault));
     }
+}
+
+#[test]
+fn reads_the_tree_at_the_front(rt: HostRuntime) -> Result<(), ReadFault> {
+    let mut trees = Trees::new(rt.alloc());
+    let (tree, count) = trees.read(rt.alloc(), b"\xff\x01\x80\x05\x80")?;
+    assert!(rt; count == 3);
+    assert!(rt; trees.as_pair(tree) == Some((trees.one(), trees.nil())));
+    assert!(rt; matches!(trees.look(tree), Sight::Parts(_, _)));
+    Ok(())
+}
+
+#[test]
+fn tells_spelled_bytes(rt: HostRuntime) -> Result<(), OutOfMemory> {
+    assert!(rt; is_one_tree(rt.alloc(), b"\xff\x01\x80")?);
+    assert!(rt; !is_one_tree(rt.alloc(), b"\xff\x01")?);
+    assert!(rt; !is_one_tree(rt.alloc(), b"\x01\x01")?);
+    Ok(())
 }
 
 // Reads an atom of this length behind the prefix, and writes it again.
@@ -115,6 +142,7 @@ fn atom_hash(alloc: Global, bytes: &[u8]) -> Result<Hash, OutOfMemory> {
 fn hashes_atoms(rt: HostRuntime) -> Result<(), OutOfMemory> {
     assert!(rt; atom_hash(rt.alloc(), b"")? == NIL_HASH);
     assert!(rt; atom_hash(rt.alloc(), b"\x01")? == ONE_HASH);
+    assert!(rt; pair_hash(&NIL_HASH, &NIL_HASH) == PAIR_OF_NILS_HASH);
     Ok(())
 }
 
@@ -143,6 +171,26 @@ fn numbers_are_twos_complement(rt: HostRuntime) -> Result<(), OutOfMemory> {
         let is_atom = is_atom_of(rt.alloc(), number, bytes)?;
         assert!(rt; is_atom);
     }
+    Ok(())
+}
+
+#[test]
+fn pairs_and_long_atoms_are_no_numbers(rt: HostRuntime) -> Result<(), OutOfMemory> {
+    let mut trees = Trees::new(rt.alloc());
+    let long = trees.atom(rt.alloc(), &[0; 17])?;
+    let pair = trees.pair(rt.alloc(), long, long)?;
+    assert!(rt; trees.number_of(long) == None && trees.number_of(pair) == None);
+    assert!(rt; unsigned(b"\x80") == 128 && unsigned(b"") == 0);
+    Ok(())
+}
+
+#[test]
+fn writes_no_more_than_allowed(rt: HostRuntime) -> Result<(), WriteFault> {
+    let mut trees = Trees::new(rt.alloc());
+    let tree = trees.pair(rt.alloc(), trees.one(), trees.nil())?;
+    assert!(rt; trees.write(rt.alloc(), tree, 2).err() == Some(WriteFault::TooLong));
+    let written = trees.write(rt.alloc(), tree, 3)?;
+    assert!(rt; written.as_slice() == b"\xff\x01\x80".as_slice());
     Ok(())
 }
 

@@ -1,10 +1,10 @@
 -- Code by hand that agrees with a small module.
-use Rattle.std.proofs.Common.{◌≡◌, ℕ, zero, suc, ◌+◌, ◌*◌, ℤ, pos, ◌+ℤ◌, Bool, true, false, cond, ltb, List, [], ◌∷◌, length, map, refl, sym, ap, ◌∙◌, subst, arith}
+use Rattle.std.proofs.Common.{◌≡◌, ℕ, zero, suc, ◌+◌, ◌*◌, ℤ, pos, ◌+ℤ◌, Bool, true, false, cond, List, [], ◌∷◌, length, map, refl, sym, ap, ◌∙◌, subst, arith}
 use Rattle.clvm_spec.specs.declared.fuel.Fuel.{Fuel}
 use Rattle.clvm_spec.specs.Tree.{Tree, Atom, Pair}
 use Rattle.clvm_spec.specs.Arithmetic.{fits_128}
 use Rattle.clvm_spec.specs.Operators.{numbers_from, from_left, new_number, new_atom, written, lengths}
-use Rattle.clvm_spec.specs.Numbers.{number, shortest_atom, without_sign_bytes}
+use Rattle.clvm_spec.specs.Numbers.{number, shortest_atom, without_sign_bytes, is_short}
 use Rattle.clvm_spec.specs.Path.{followed}
 use Rattle.clvm_spec.specs.Reading.{head_at, tree_at_front}
 use Rattle.clvm_spec.specs.Tokens.{token_of, word_token}
@@ -99,7 +99,7 @@ unfolding not_out
 numbers_end place [] go p = p []
 numbers_end place (Pair a b ∷ operands) go p = λ e. cc
 numbers_end place (Atom bytes ∷ operands) go p =
-    either_ends (ltb 16 (length bytes)) TooWide (numbers_from (suc place) operands (λ more. go (bytes ∷ more))) too_wide_ends (numbers_end (suc place) operands (λ more. go (bytes ∷ more)) (λ more. p (bytes ∷ more)))
+    either_ends (is_short bytes) (numbers_from (suc place) operands (λ more. go (bytes ∷ more))) TooWide (numbers_end (suc place) operands (λ more. go (bytes ∷ more)) (λ more. p (bytes ∷ more))) too_wide_ends
 
 abbrev sum_cost : List (List ℕ) → ℕ
 sum_cost atoms = 99 + 320 * length atoms + 3 * lengths atoms

@@ -4,7 +4,7 @@ use Rattle.std.proofs.lemmas.Bool.{cases_Bool, cond-true, cond-false, and_parts,
 use Rattle.std.proofs.lemmas.Slice.Eq.{bytes_eq-Decides}
 use Rattle.std.specs.List.{list_all}
 use Rattle.clvm_spec.specs.Tree.{Tree}
-use Rattle.clvm_spec.specs.OperatorTable.{Operator, operator, by_evaluation, operators, operator_named}
+use Rattle.clvm_spec.specs.OperatorTable.{Any, Operator, operator, quote_cost, by_evaluation, operators, operator_named}
 use Rattle.lisp_spec.specs.Forms.{Form, Place}
 use Rattle.lisp_spec.specs.Modules.{Definition, definition_named}
 use Rattle.lisp_spec.specs.Heads.{Head, Operates, head_of, operator_head, is_q, is_quote, is_qq, is_unquote, is_if, is_list}
@@ -87,7 +87,7 @@ q_row name e =
 
 not_one : (name : List ℕ) (row : Operator) → is_q name ≡ false → operator_named name ≡ Some row → (row.code == 1) ≡ false
 unfolding operator_named
-not_one name row q e = found_after (λ row. bytes_eq row.name name) (operator 1 (codes "q") by_evaluation) (all_but_first operators) row (q_row name q) e refl
+not_one name row q e = found_after (λ row. bytes_eq row.name name) (operator 1 (codes "q") 0 None Any quote_cost by_evaluation) (all_but_first operators) row (q_row name q) e refl
 
 operates : (name : List ℕ) (found : Option Operator) (code : ℕ) → is_q name ≡ false → operator_named name ≡ found → operator_head found ≡ Operates code → (code == 1) ≡ false
 operates name None code q f e = cc

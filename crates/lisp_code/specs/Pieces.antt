@@ -1,14 +1,11 @@
 -- Pieces of code. Code runs on a tree whose first is the list of the functions' codes and whose rest is the argument.
 -- Source: this project's own, over the operators of the CLVM reference.
 use Rattle.std.specs.Prelude.{ℕ, zero, suc, List, [], ◌∷◌}
-use Rattle.clvm_spec.specs.Tree.{Tree, Atom, Pair, nil, list_tree}
+use Rattle.clvm_spec.specs.Tree.{Tree, Atom, nil}
 use Rattle.lisp_spec.specs.Parameters.{Side, ToFirst, ToRest}
+pub use Rattle.lisp_spec.specs.Curried.{operator_code}
 use Rattle.lisp_spec.specs.Curried.{quote_of}
 use Rattle.lisp_code.specs.Paths.{path_atom}
-
--- the form of an operator on its operands
-abbrev pub operator_code : ℕ → List Tree → Tree
-operator_code code operands = Pair (Atom (code ∷ [])) (list_tree operands)
 
 -- what stands at a path of the tree that the code runs on
 abbrev pub path_code : List Side → Tree

@@ -3,7 +3,8 @@
 use Rattle.std.specs.Prelude.{ℕ, zero, suc, Bool, true, false, List, [], ◌∷◌, length, nat_lt, if◌then◌else◌}
 use Rattle.clvm_spec.specs.declared.scan_kind.ScanKind.{ScanKind}
 use Rattle.clvm_spec.specs.declared.scan_kind.ScanKind.TheVariants.{End, Close, Dot, Deep}
-use Rattle.clvm_spec.specs.Tokens.{Opening, Closing, Point, Literal, Front, Took, Unread, AtEnd, token_of, place_of}
+use Rattle.clvm_spec.specs.Places.{place_of}
+use Rattle.clvm_spec.specs.Tokens.{Opening, Closing, Point, Literal, Front, Took, Unread, AtEnd, token_of}
 use Rattle.clvm_spec.specs.Tokens as tokens
 use Rattle.lisp_read.specs.declared.place.Place.{Place}
 use Rattle.lisp_read.specs.Forms.{Form, Atom, Symbol, Pair}

@@ -3,8 +3,8 @@ use Rattle.std.proofs.Common.{◌≡◌, ℕ, Bool, true, false, cond, ◌&&◌,
 use Rattle.std.proofs.lemmas.Bool.{eqb-true, and_parts}
 use Rattle.clvm_spec.specs.Tree.{Tree, Atom, Pair, nil}
 use Rattle.clvm_spec.specs.Hashing.{tree_hash}
-use Rattle.clvm_spec.specs.Evaluation.{is_byte}
-use Rattle.lisp_spec.specs.Curried.{quote_of, form_of_two, environment_with, curried, form_hash, quote_hash, environment_hash, is_code, environment_arguments, CurriedParts, with_program}
+use Rattle.clvm_spec.specs.Evaluation.{is_byte, is_code}
+use Rattle.lisp_spec.specs.Curried.{quote_of, operator_code, environment_with, curried, form_hash, quote_hash, environment_hash, environment_arguments, CurriedParts, with_program}
 use Rattle.lisp_spec.specs.CurriedLaws.{HashFollows, GivesPartsBack, GivesNoneWithoutArgument, WasCurried, program_and_arguments}
 
 environment_hash_follows : (arguments : List Tree) → tree_hash (environment_with arguments) ≡ environment_hash (map tree_hash arguments)
@@ -40,7 +40,7 @@ code_is code (Atom (b ∷ [])) e = ap (λ b. Atom (b ∷ [])) (eqb-true b code e
 code_is code (Atom (b ∷ c ∷ bytes)) e = cc
 code_is code (Pair first rest) e = cc
 
-form_is : (code : ℕ) (head quote tree : Tree) (other : Tree) → (is_code code head && is_code 1 quote) ≡ true → Pair head (Pair (Pair quote tree) (Pair other nil)) ≡ form_of_two code (quote_of tree) other
+form_is : (code : ℕ) (head quote tree : Tree) (other : Tree) → (is_code code head && is_code 1 quote) ≡ true → Pair head (Pair (Pair quote tree) (Pair other nil)) ≡ operator_code code (quote_of tree ∷ other ∷ [])
 form_is code head quote tree other e =
     let both = and_parts (is_code code head) (is_code 1 quote) e in
     ap₂ (λ h q. Pair h (Pair (Pair q tree) (Pair other nil))) (code_is code head both.0) (code_is 1 quote both.1)
@@ -53,20 +53,20 @@ arguments_are (Atom bytes) arguments e =
 arguments_are (Pair c (Pair (Pair q argument) (Pair more (Atom [])))) arguments e =
     let found = found_when (is_code 4 c && is_code 1 q) (option_map (λ rest. argument ∷ rest) (environment_arguments more)) arguments e in
     let rest = found_by (λ rest. argument ∷ rest) (environment_arguments more) arguments found.1 in
-    form_is 4 c q argument more found.0 ∙ ap (λ rest. form_of_two 4 (quote_of argument) rest) (arguments_are more rest.0 rest.1) ∙ ap environment_with rest.2
+    form_is 4 c q argument more found.0 ∙ ap (λ rest. operator_code 4 (quote_of argument ∷ rest ∷ [])) (arguments_are more rest.0 rest.1) ∙ ap environment_with rest.2
 arguments_are other arguments e = cc
 
 Found : Tree → CurriedParts → Type 0
 Found tree found = (first : Tree) × (more : List Tree) × (found.arguments ≡ first ∷ more) × (tree ≡ curried found.program (first ∷ more))
 
-with_program_is : (program environment : Tree) (arguments : Option (List Tree)) (found : CurriedParts) → environment_arguments environment ≡ arguments → with_program program arguments ≡ Some found → Found (form_of_two 2 (quote_of program) environment) found
+with_program_is : (program environment : Tree) (arguments : Option (List Tree)) (found : CurriedParts) → environment_arguments environment ≡ arguments → with_program program arguments ≡ Some found → Found (operator_code 2 (quote_of program ∷ environment ∷ [])) found
 unfolding Found
 with_program_is program environment None found g e = cc
 with_program_is program environment (Some []) found g e = cc
 with_program_is program environment (Some (first ∷ more)) found g e =
     let same : program_and_arguments program first more ≡ found = cc in
-    subst (λ (f : CurriedParts). Found (form_of_two 2 (quote_of program) environment) f) same
-    (first, more, refl, ap (λ rest. form_of_two 2 (quote_of program) rest) (arguments_are environment (first ∷ more) g))
+    subst (λ (f : CurriedParts). Found (operator_code 2 (quote_of program ∷ environment ∷ [])) f) same
+    (first, more, refl, ap (λ rest. operator_code 2 (quote_of program ∷ rest ∷ [])) (arguments_are environment (first ∷ more) g))
 
 pub was_curried : WasCurried
 unfolding Found

@@ -2,6 +2,7 @@
 -- the texts themselves are this project's own.
 use Rattle.std.specs.Prelude.{ℕ, List, [], ◌∷◌, ◌++◌, Option, Some, None, bytes_eq, codes, flat_map, if◌then◌else◌}
 use Rattle.std.specs.Fmt.{decimal}
+use Rattle.clvm_spec.specs.Lines.{line_feed}
 
 -- a condition, by its name and its code
 pub record ConditionCode : Type 0 where
@@ -50,7 +51,7 @@ condition_codes =
     ∷ []
 
 abbrev pub line : List ℕ → List ℕ
-line text = text ++ 10 ∷ []
+line text = text ++ line_feed
 
 -- one constant for each condition
 abbrev pub constant_line : ConditionCode → List ℕ

@@ -1,25 +1,25 @@
 -- Curried programs: a program with its first arguments given. Source: Chialisp reference.
-use Rattle.std.specs.Prelude.{ℕ, Bool, false, ◌&&◌, List, [], ◌∷◌, Option, Some, None, option_map, if◌then◌else◌}
-use Rattle.clvm_spec.specs.Hashing.{atom_hash, pair_hash}
-use Rattle.clvm_spec.specs.Tree.{Tree, Atom, Pair, nil}
-use Rattle.clvm_spec.specs.Evaluation.{is_byte}
+use Rattle.std.specs.Prelude.{ℕ, ◌&&◌, List, [], ◌∷◌, Option, Some, None, option_map, if◌then◌else◌}
+use Rattle.clvm_spec.specs.Hashing.{atom_hash, pair_hash, list_hash}
+use Rattle.clvm_spec.specs.Tree.{Tree, Atom, Pair, list_tree}
+use Rattle.clvm_spec.specs.Evaluation.{is_byte, is_code}
 
 -- `(q . TREE)`
 abbrev pub quote_of : Tree → Tree
 quote_of tree = Pair (Atom (1 ∷ [])) tree
 
--- `(CODE X Y)`
-abbrev pub form_of_two : ℕ → Tree → Tree → Tree
-form_of_two code x y = Pair (Atom (code ∷ [])) (Pair x (Pair y nil))
+-- the form of an operator on its operands
+abbrev pub operator_code : ℕ → List Tree → Tree
+operator_code code operands = Pair (Atom (code ∷ [])) (list_tree operands)
 
 -- `(c (q . A1) (c (q . A2) .. 1))`: an environment with these in front
 abbrev pub environment_with : List Tree → Tree
 environment_with [] = Atom (1 ∷ [])
-environment_with (argument ∷ arguments) = form_of_two 4 (quote_of argument) (environment_with arguments)
+environment_with (argument ∷ arguments) = operator_code 4 (quote_of argument ∷ environment_with arguments ∷ [])
 
 -- `(a (q . PROGRAM) (c (q . A1) (c (q . A2) .. 1)))`
 abbrev pub curried : (program : Tree) (arguments : List Tree) → Tree
-curried program arguments = form_of_two 2 (quote_of program) (environment_with arguments)
+curried program arguments = operator_code 2 (quote_of program ∷ environment_with arguments ∷ [])
 
 -- ---- its hash, from those of its parts
 
@@ -27,7 +27,7 @@ abbrev pub quote_hash : List ℕ → List ℕ
 quote_hash hash = pair_hash (atom_hash (1 ∷ [])) hash
 
 abbrev pub form_hash : ℕ → List ℕ → List ℕ → List ℕ
-form_hash code x y = pair_hash (atom_hash (code ∷ [])) (pair_hash x (pair_hash y (atom_hash [])))
+form_hash code x y = list_hash (atom_hash (code ∷ []) ∷ x ∷ y ∷ [])
 
 abbrev pub environment_hash : List (List ℕ) → List ℕ
 environment_hash [] = atom_hash (1 ∷ [])
@@ -37,10 +37,6 @@ abbrev pub curried_hash : (program : List ℕ) (arguments : List (List ℕ)) →
 curried_hash program arguments = form_hash 2 (quote_hash program) (environment_hash arguments)
 
 -- ---- back to the parts
-
-abbrev pub is_code : ℕ → Tree → Bool
-is_code code (Atom bytes) = is_byte code bytes
-is_code code (Pair first rest) = false
 
 -- the arguments of `(c (q . A1) (c (q . A2) .. 1))`
 abbrev pub environment_arguments : Tree → Option (List Tree)

@@ -144,6 +144,7 @@ ff14ff07ff8080 fails ZeroDivisor
 ff14ff9080000000000000000000000000000000ff81ff80 fails Wide
 ff14ff0780 fails Count
 ff14ff07ffff050680 fails Operand(1)
+ff14ffff0506ff8080 fails Operand(0)
 ff14ff910000000000000000000000000000000000ff8080 fails Wide
 # > costs 498, and 2 for each byte
 ff15ff02ff0180 gives 01 502 0 0 # 498 + 2 * 2
@@ -151,6 +152,7 @@ ff15ff01ff0280 gives 80 502 0 0 # 498 + 2 * 2
 ff15ff81ffff8080 gives 80 500 0 0 # 498 + 2
 ff15ff80ff81ff80 gives 01 500 0 0 # 498 + 2
 ff15ff820005ff0580 gives 80 504 0 0 # 498 + 3 * 2
+ff15ff907fffffffffffffffffffffffffffffffff908000000000000000000000000000000080 gives 01 562 0 0 # 498 + 32 * 2
 ff15ff0180 fails Count
 ff15ffff0506ff0580 fails Operand(0)
 ff15ff05ffff050680 fails Operand(1)
@@ -198,6 +200,9 @@ ff17ff910000000000000000000000000000000000ff8080 fails Wide
 # logand, logior, logxor cost 100, 264 for each operand, 3 for each byte, and 10 for each byte of the result
 ff1880 gives 81ff 110 0 9 # 100 + 10; 1 + 8
 ff18ff0cff0a80 gives 08 644 0 9 # 100 + 2 * 264 + 2 * 3 + 10; 1 + 8
+ff18ff90ffffffffffffffffffffffffffffffffff0f80 gives 0f 689 0 9 # 100 + 2 * 264 + 17 * 3 + 10; 1 + 8
+ff19ff907fffffffffffffffffffffffffffffffff8080 gives 907fffffffffffffffffffffffffffffff 836 0 24 # 100 + 2 * 264 + 16 * 3 + 16 * 10; 16 + 8
+ff1aff9080000000000000000000000000000000ff8080 gives 9080000000000000000000000000000000 836 0 24 # 100 + 2 * 264 + 16 * 3 + 16 * 10; 16 + 8
 ff18ff81feff0580 gives 04 644 0 9 # 100 + 2 * 264 + 2 * 3 + 10; 1 + 8
 ff18ff05ffff050680 fails Operand(1)
 ff18ff91000000000000000000000000000000000080 fails Wide

@@ -10,7 +10,7 @@ use Rattle.clvm_ops.proofs.on_numbers.complement_of.Goals as goal
 pub returns-in_err-bytes : goal.returns-in_err-bytes
 returns-in_err-bytes c =
     let list = one_operand c.args.trees.now c.args.operands.now record { 0 = 0 } c.in-len1.len_at_least c.in-len1.len_below in
-    answers_same c.args.trees.now c.args.trees.now (length c.args.operands.now) c.args.left _ _ _ (ap complement_of list)
+    answers_same c.args.trees.now c.args.trees.now (length c.args.operands.now) c.args.left _ _ _ (ap (complement_of 331) list)
     (faulty c.args.trees.now (length c.args.operands.now) c.args.left _ c.in_err-bytes.field-0.0 _ c.from_residual.ensures.1 (c.in_err-bytes.ensures.err _))
 
 pub returns : goal.returns

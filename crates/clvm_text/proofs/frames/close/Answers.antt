@@ -2,8 +2,8 @@ use Rattle.std.proofs.Common.{drop, ◌∙◌, ap}
 use Rattle.clvm_spec.specs.declared.scan_kind.ScanKind.TheVariants as kind
 use Rattle.clvm_spec.specs.Tokens.{Took, Unread, AtEnd, token_of}
 use Rattle.clvm_spec.specs.Tokens as tokens
-use Rattle.clvm_text.specs.Frames.{at_token, dot_of, first_dot, fault_behind}
-use Rattle.clvm_text.proofs.StepLaws.{stops_at, no_end}
+use Rattle.clvm_text.specs.Frames.{at_token, fault_in}
+use Rattle.clvm_text.proofs.StepLaws.{stops_at, no_end, settles_takes}
 use Rattle.clvm_text.proofs.frames.close.Goals as goal
 
 pub returns-in-None-clause-stops : goal.returns-in-None-clause-stops
@@ -11,6 +11,10 @@ returns-in-None-clause-stops c = λ text rest.
     let m = c.args.mode in
     let place = c.args.place in
     let trees = c.args.trees.now in
-    stops_at trees text c.args.frames.now.items m kind.Close place c.fault.result (at_token trees text m (Took tokens.Closing (drop place text) rest)) c.requires.dots c.requires.dot
-    (c.fault.ensures ∙ ap (λ f. fault_behind (first_dot f (dot_of m)) kind.Close place) c.as_slice.ensures.value)
+    stops_at trees text c.args.frames.now.items m kind.Close place c.fault.result (at_token trees text m (Took tokens.Closing (drop place text) rest)) c.requires.within c.requires.mode_within
+    (c.fault.ensures ∙ ap (λ f. fault_in f m kind.Close place) c.as_slice.ensures.value)
     (no_end trees text m (drop place text) rest c.in-None.ensures)
+
+pub returns-in-Ok-clause-takes : goal.returns-in-Ok-clause-takes
+returns-in-Ok-clause-takes c =
+    settles_takes c.args.trees.now c.settle.new.trees c.args.frames.now.items c.settle.new.frames.items c.args.mode c.in-Some.form c.args.place c.in-Ok.step c.requires.within c.requires.mode_within c.in-Some.ensures c.in-Ok.ensures.settles

@@ -3,17 +3,17 @@ use Rattle.clvm_spec.specs.declared.scan_kind.ScanKind.TheVariants as kind
 use Rattle.clvm_spec.specs.Tokens.{Took, Unread, AtEnd, token_of}
 use Rattle.clvm_spec.specs.Tokens as tokens
 use Rattle.clvm_text.specs.declared.frames.Mode.TheVariants as mode
-use Rattle.clvm_text.specs.Frames.{at_token, told, AreBegun, AreDotsWithin, elements, dot_of, first_dot, fault_behind, list_frame}
-use Rattle.clvm_text.proofs.FrameLaws.{AreBegun-push, AreDots-push, elements-push}
+use Rattle.clvm_text.specs.Frames.{at_token, told, AreBegun, AreWithin, elements, fault_in, list_frame}
+use Rattle.clvm_text.proofs.FrameLaws.{AreBegun-push, AreWithin-push, elements-push}
 use Rattle.clvm_text.proofs.StepLaws.{opens_list, stops_at, no_list, too_deep, list_begun, list_within, list_element}
 use Rattle.clvm_text.proofs.frames.open.Goals as goal
 
 pub returns-then-depth-ge1024-clause-stops : goal.returns-then-depth-ge1024-clause-stops
-returns-then-depth-ge1024-clause-stops c = λ trees dots dot text rest.
+returns-then-depth-ge1024-clause-stops c = λ trees within mode_within text rest.
     let m = c.args.mode in
     let place = c.args.place in
-    stops_at trees text c.args.frames.now.items m kind.Deep place c.fault.result (at_token trees text m (Took tokens.Opening (drop place text) rest)) dots dot
-    (c.fault.ensures ∙ ap (λ f. fault_behind (first_dot f (dot_of m)) kind.Deep place) c.as_slice.ensures.value)
+    stops_at trees text c.args.frames.now.items m kind.Deep place c.fault.result (at_token trees text m (Took tokens.Opening (drop place text) rest)) within mode_within
+    (c.fault.ensures ∙ ap (λ f. fault_in f m kind.Deep place) c.as_slice.ensures.value)
     (too_deep trees text m c.in-Some.depth (drop place text) rest (sym c.depth_in.ensures ∙ c.in-Some.is) c.if-depth-ge1024.true)
 
 pub returns-in_ok-push-in-Some-clause-few : goal.returns-in_ok-push-in-Some-clause-few
@@ -23,23 +23,27 @@ returns-in_ok-push-in-Some-clause-few c =
     omega (arith, ap elements pushed, elements-push frames (list_frame c.args.mode), list_element c.args.mode)
 
 pub returns-in_ok-push-in-Some-clause-takes : goal.returns-in_ok-push-in-Some-clause-takes
-returns-in_ok-push-in-Some-clause-takes c = λ trees begun dots.
+returns-in_ok-push-in-Some-clause-takes c = λ trees begun within.
     let m = c.args.mode in
     let place = c.args.place in
     let frames = c.args.frames.now.items in
     let depth = c.in-Some.depth in
     let pushed = c.in_ok-push-in-Some.ensures.items ∙ ap (λ f. frames ++ f ∷ []) c.list_frame.ensures in (
-      record { begun = subst (AreBegun trees) (sym pushed) (AreBegun-push trees frames (list_frame m) begun (list_begun trees m)); known = tt },
-      (subst (AreDotsWithin place) (sym pushed) (AreDots-push place frames (list_frame m) dots (list_within place m)), tt),
+      record {
+        begun = subst (AreBegun trees) (sym pushed) (AreBegun-push trees frames (list_frame m) begun (list_begun trees m));
+        known = tt;
+        within = subst (AreWithin place) (sym pushed) (AreWithin-push place frames (list_frame m) within (list_within place m));
+        mode_within = tt;
+      },
       λ text rest.
           opens_list trees text frames m depth (drop place text) rest (sym c.depth_in.ensures ∙ c.in-Some.is) (omega (arith, c.if-depth-ge1024.false))
           ∙ ap (λ f. told trees text f (mode.List (depth + 1) false) (token_of rest)) (sym pushed),
     )
 
 pub returns-in-None-clause-stops : goal.returns-in-None-clause-stops
-returns-in-None-clause-stops c = λ trees dots dot text rest.
+returns-in-None-clause-stops c = λ trees within mode_within text rest.
     let m = c.args.mode in
     let place = c.args.place in
-    stops_at trees text c.args.frames.now.items m kind.Dot place c.fault-in-None.result (at_token trees text m (Took tokens.Opening (drop place text) rest)) dots dot
-    (c.fault-in-None.ensures ∙ ap (λ f. fault_behind (first_dot f (dot_of m)) kind.Dot place) c.as_slice-in-None.ensures.value)
+    stops_at trees text c.args.frames.now.items m kind.Dot place c.fault-in-None.result (at_token trees text m (Took tokens.Opening (drop place text) rest)) within mode_within
+    (c.fault-in-None.ensures ∙ ap (λ f. fault_in f m kind.Dot place) c.as_slice-in-None.ensures.value)
     (no_list trees text m (drop place text) rest (sym c.depth_in.ensures ∙ c.in-None.is))

@@ -4,8 +4,8 @@ use Rattle.clvm_spec.specs.Tokens.{Took, Unread, AtEnd, token_of}
 use Rattle.clvm_spec.specs.Tokens as tokens
 use Rattle.clvm_text.specs.declared.frames.Frame.TheVariants.{Dot}
 use Rattle.clvm_text.specs.declared.frames.Mode.TheVariants as mode
-use Rattle.clvm_text.specs.Frames.{at_token, told, AreBegun, AreDotsWithin, elements, dot_of, first_dot, fault_behind}
-use Rattle.clvm_text.proofs.FrameLaws.{AreBegun-push, AreDots-push, elements-push}
+use Rattle.clvm_text.specs.Frames.{at_token, told, AreBegun, AreWithin, elements, fault_in}
+use Rattle.clvm_text.proofs.FrameLaws.{AreBegun-push, AreWithin-push, elements-push}
 use Rattle.clvm_text.proofs.StepLaws.{takes_dot, stops_at, no_dot}
 use Rattle.clvm_text.proofs.frames.point.Goals as goal
 
@@ -14,24 +14,28 @@ returns-in_ok-push-in-Some-clause-few c =
     omega (arith, ap elements c.in_ok-push-in-Some.ensures.items, elements-push c.args.frames.now.items (Dot c.args.place))
 
 pub returns-in_ok-push-in-Some-clause-takes : goal.returns-in_ok-push-in-Some-clause-takes
-returns-in_ok-push-in-Some-clause-takes c = λ trees begun dots.
+returns-in_ok-push-in-Some-clause-takes c = λ trees begun within.
     let m = c.args.mode in
     let place = c.args.place in
     let frames = c.args.frames.now.items in
     let depth = c.in-Some.depth in
     let pushed = c.in_ok-push-in-Some.ensures.items in
     let here : place ≤ place = omega arith in (
-      record { begun = subst (AreBegun trees) (sym pushed) (AreBegun-push trees frames (Dot place) begun tt); known = tt },
-      (subst (AreDotsWithin place) (sym pushed) (AreDots-push place frames (Dot place) dots here), tt),
+      record {
+        begun = subst (AreBegun trees) (sym pushed) (AreBegun-push trees frames (Dot place) begun tt);
+        known = tt;
+        within = subst (AreWithin place) (sym pushed) (AreWithin-push place frames (Dot place) within here);
+        mode_within = tt;
+      },
       λ text rest.
           takes_dot trees text frames m depth place rest (sym c.begun_in.ensures ∙ c.in-Some.is)
           ∙ ap (λ f. told trees text f (mode.Form depth) (token_of rest)) (sym pushed),
     )
 
 pub returns-in-None-clause-stops : goal.returns-in-None-clause-stops
-returns-in-None-clause-stops c = λ trees dots dot text rest.
+returns-in-None-clause-stops c = λ trees within mode_within text rest.
     let m = c.args.mode in
     let place = c.args.place in
-    stops_at trees text c.args.frames.now.items m kind.Dot place c.fault.result (at_token trees text m (Took tokens.Point (drop place text) rest)) dots dot
-    (c.fault.ensures ∙ ap (λ f. fault_behind (first_dot f (dot_of m)) kind.Dot place) c.as_slice.ensures.value)
+    stops_at trees text c.args.frames.now.items m kind.Dot place c.fault.result (at_token trees text m (Took tokens.Point (drop place text) rest)) within mode_within
+    (c.fault.ensures ∙ ap (λ f. fault_in f m kind.Dot place) c.as_slice.ensures.value)
     (no_dot trees text m (drop place text) rest (sym c.begun_in.ensures ∙ c.in-None.is))

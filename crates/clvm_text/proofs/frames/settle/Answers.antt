@@ -3,11 +3,11 @@ use Rattle.clvm_spec.specs.Tokens.{token_of}
 use Rattle.clvm_spec.specs.Text.{Parses, list_at}
 use Rattle.clvm_spec.specs.TextLaws.{list_from}
 use Rattle.clvm_spec.proofs.ScanLaws.{list_step}
-use Rattle.clvm_tree.specs.Nodes.{tree_at}
 use Rattle.clvm_tree.proofs.NodeLaws.{grows_on}
 use Rattle.clvm_text.specs.declared.frames.Frame.TheVariants.{Whole, Inner, Element, Dot}
-use Rattle.clvm_text.specs.Frames.{framed, resumed, AreBegun, AreDotsWithin, elements}
-use Rattle.clvm_text.proofs.FrameLaws.{resumed-push, resumed-grows, AreBegun-grows, AreBegun-push, AreBegun-init, AreDots-push, AreDots-init, elements-push}
+use Rattle.clvm_text.specs.Forms.{formed}
+use Rattle.clvm_text.specs.Frames.{framed, resumed, AreBegun, AreWithin, elements}
+use Rattle.clvm_text.proofs.FrameLaws.{resumed-push, resumed-grows, AreBegun-grows, AreBegun-push, AreBegun-init, AreWithin-push, AreWithin-init, elements-push, no_frames}
 use Rattle.clvm_text.proofs.frames.settle.Goals as goal
 
 pub pair-requires-clause-fits : goal.pair-requires-clause-fits
@@ -29,24 +29,27 @@ returns-in_err-whole-in-Element-clause-few c =
 pub frames-preserved-in-Element : goal.frames-preserved-in-Element
 frames-preserved-in-Element c =
     let trees = c.frames.trees in
-    let new = c.pair.new.self in
+    let new = c.pair.new.trees in
     let popped = c.pop.new.self.items in
     let first = c.in-Element.first in
     let whole = c.in_ok-whole-in-Element.whole in
-    let adds = c.in_ok-whole-in-Element.ensures.ok in
+    let made = c.in_ok-whole-in-Element.ensures.made in
     let items = c.in-Some.ensures.items ∙ ap (λ f. popped ++ f ∷ []) c.in-Element.is in
     let known = AreBegun-init trees popped (Element first) (subst (AreBegun trees) items c.frames.invariant.begun) in
     record {
-      grows = grows_on c.args.trees.now trees new c.frames.invariant.grows adds.grows;
-      count = omega (arith, adds.few, ap elements items, elements-push popped (Element first), c.frames.invariant.count);
-      known = adds.known;
-      begun = AreBegun-grows trees new popped adds.grows known.0;
-      dots = λ limit h. (AreDots-init limit popped (Element first) (subst (AreDotsWithin limit) items (c.frames.invariant.dots limit h))).0;
+      grows = grows_on c.args.trees.now trees new c.frames.invariant.grows made.grows;
+      count = omega (arith, made.few, ap elements items, elements-push popped (Element first), c.frames.invariant.count);
+      known = made.known;
+      begun = AreBegun-grows trees new popped made.grows known.0;
+      within = λ limit h f.
+          let now = c.frames.invariant.within limit h f in
+          let frames = AreWithin-init limit popped (Element first) (subst (AreWithin limit) items now.0) in
+          (frames.0, c.in_ok-whole-in-Element.ensures.within limit frames.1 now.1);
       same = λ text rest.
-          c.frames.invariant.same text rest ∙ ap (λ f. resumed trees text f (Parses (tree_at trees c.frames.whole.0) rest)) items
-          ∙ resumed-push trees text popped (Element first) (Parses (tree_at trees c.frames.whole.0) rest)
-          ∙ ap (λ t. resumed trees text popped (Parses t rest)) (sym adds.stands)
-          ∙ sym (resumed-grows trees new text popped (Parses (tree_at new whole.0) rest) adds.grows known.0);
+          c.frames.invariant.same text rest ∙ ap (λ f. resumed trees text f (Parses (formed trees text c.frames.whole) rest)) items
+          ∙ resumed-push trees text popped (Element first) (Parses (formed trees text c.frames.whole) rest)
+          ∙ ap (λ t. resumed trees text popped (Parses t rest)) (sym (made.stands text))
+          ∙ sym (resumed-grows trees new text popped (Parses (formed new text whole) rest) made.grows known.0);
     }
 
 pub frames-preserved : goal.frames-preserved
@@ -59,10 +62,12 @@ frames-preserved c =
       count = omega (arith, ap elements items, elements-push popped Whole, c.frames.invariant.count);
       known = c.frames.invariant.known;
       begun = (AreBegun-init trees popped Whole (subst (AreBegun trees) items c.frames.invariant.begun)).0;
-      dots = λ limit h. (AreDots-init limit popped Whole (subst (AreDotsWithin limit) items (c.frames.invariant.dots limit h))).0;
+      within = λ limit h f.
+          let now = c.frames.invariant.within limit h f in
+          ((AreWithin-init limit popped Whole (subst (AreWithin limit) items now.0)).0, now.1);
       same = λ text rest.
-          c.frames.invariant.same text rest ∙ ap (λ f. resumed trees text f (Parses (tree_at trees c.frames.whole.0) rest)) items
-          ∙ resumed-push trees text popped Whole (Parses (tree_at trees c.frames.whole.0) rest);
+          c.frames.invariant.same text rest ∙ ap (λ f. resumed trees text f (Parses (formed trees text c.frames.whole) rest)) items
+          ∙ resumed-push trees text popped Whole (Parses (formed trees text c.frames.whole) rest);
     }
 
 pub returns-in-Inner-clause-few : goal.returns-in-Inner-clause-few
@@ -72,19 +77,24 @@ returns-in-Inner-clause-few c =
     omega (arith, ap elements items, elements-push popped (Inner c.in-Inner.depth), ap elements c.in_ok-push-in-Inner.ensures.items, elements-push popped (Element c.frames.whole), c.frames.invariant.count)
 
 pub returns-in-Inner-clause-settles : goal.returns-in-Inner-clause-settles
-returns-in-Inner-clause-settles c =
+returns-in-Inner-clause-settles c = λ limit h f.
     let trees = c.frames.trees in
     let popped = c.pop.new.self.items in
     let depth = c.in-Inner.depth in
     let whole = c.frames.whole in
     let items = c.in-Some.ensures.items ∙ ap (λ f. popped ++ f ∷ []) c.in-Inner.is in
     let pushed = c.in_ok-push-in-Inner.ensures.items in
-    let known = AreBegun-init trees popped (Inner depth) (subst (AreBegun trees) items c.frames.invariant.begun) in (
-      record { begun = subst (AreBegun trees) (sym pushed) (AreBegun-push trees popped (Element whole) known.0 c.frames.invariant.known); known = tt },
-      λ limit h. (subst (AreDotsWithin limit) (sym pushed) (AreDots-push limit popped (Element whole) (AreDots-init limit popped (Inner depth) (subst (AreDotsWithin limit) items (c.frames.invariant.dots limit h))).0 tt), tt),
+    let known = AreBegun-init trees popped (Inner depth) (subst (AreBegun trees) items c.frames.invariant.begun) in
+    let now = c.frames.invariant.within limit h f in (
+      record {
+        begun = subst (AreBegun trees) (sym pushed) (AreBegun-push trees popped (Element whole) known.0 c.frames.invariant.known);
+        known = tt;
+        within = subst (AreWithin limit) (sym pushed) (AreWithin-push limit popped (Element whole) (AreWithin-init limit popped (Inner depth) (subst (AreWithin limit) items now.0)).0 now.1);
+        mode_within = tt;
+      },
       λ text rest.
-          c.frames.invariant.same text rest ∙ ap (λ f. resumed trees text f (Parses (tree_at trees whole.0) rest)) items
-          ∙ resumed-push trees text popped (Inner depth) (Parses (tree_at trees whole.0) rest)
+          c.frames.invariant.same text rest ∙ ap (λ f. resumed trees text f (Parses (formed trees text whole) rest)) items
+          ∙ resumed-push trees text popped (Inner depth) (Parses (formed trees text whole) rest)
           ∙ ap (λ p. resumed trees text popped (framed trees text (Element whole) p)) (list_step depth true rest)
           ∙ sym (resumed-push trees text popped (Element whole) (list_at list_from depth true (token_of rest)))
           ∙ ap (λ f. resumed trees text f (list_at list_from depth true (token_of rest))) (sym pushed),
@@ -97,14 +107,25 @@ returns-in-Dot-clause-few c =
     omega (arith, ap elements items, elements-push popped (Dot c.in-Dot.place), c.frames.invariant.count)
 
 pub returns-in-Dot-clause-settles : goal.returns-in-Dot-clause-settles
-returns-in-Dot-clause-settles c =
+returns-in-Dot-clause-settles c = λ limit h f.
     let trees = c.frames.trees in
     let popped = c.pop.new.self.items in
     let place = c.in-Dot.place in
-    let items = c.in-Some.ensures.items ∙ ap (λ f. popped ++ f ∷ []) c.in-Dot.is in (
-      record { begun = (AreBegun-init trees popped (Dot place) (subst (AreBegun trees) items c.frames.invariant.begun)).0; known = c.frames.invariant.known },
-      λ limit h. AreDots-init limit popped (Dot place) (subst (AreDotsWithin limit) items (c.frames.invariant.dots limit h)),
+    let items = c.in-Some.ensures.items ∙ ap (λ f. popped ++ f ∷ []) c.in-Dot.is in
+    let now = c.frames.invariant.within limit h f in
+    let frames = AreWithin-init limit popped (Dot place) (subst (AreWithin limit) items now.0) in (
+      record {
+        begun = (AreBegun-init trees popped (Dot place) (subst (AreBegun trees) items c.frames.invariant.begun)).0;
+        known = c.frames.invariant.known;
+        within = frames.0;
+        mode_within = (now.1, frames.1);
+      },
       λ text rest.
-          c.frames.invariant.same text rest ∙ ap (λ f. resumed trees text f (Parses (tree_at trees c.frames.whole.0) rest)) items
-          ∙ resumed-push trees text popped (Dot place) (Parses (tree_at trees c.frames.whole.0) rest),
+          c.frames.invariant.same text rest ∙ ap (λ f. resumed trees text f (Parses (formed trees text c.frames.whole) rest)) items
+          ∙ resumed-push trees text popped (Dot place) (Parses (formed trees text c.frames.whole) rest),
     )
+
+pub returns-clause-settles : goal.returns-clause-settles
+returns-clause-settles c = λ limit h f.
+    let trees = c.frames.trees in
+    (c.frames.invariant.known, (c.frames.invariant.within limit h f).1, λ text rest. c.frames.invariant.same text rest ∙ ap (λ fs. resumed trees text fs (Parses (formed trees text c.frames.whole) rest)) (no_frames c.frames.frames.items (omega (arith, c.in_default.ensures.cases.0, c.frames.frames.ok.0))))

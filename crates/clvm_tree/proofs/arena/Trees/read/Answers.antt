@@ -1,15 +1,15 @@
 use Rattle.std.proofs.Common.{◌≡◌, ℕ, ◌+◌, ◌-◌, ◌<◌, length, drop, None, sym, ◌∙◌, ap, subst, arith}
 use Rattle.std.proofs.lemmas.List.{drop-drop}
 use Rattle.clvm_spec.specs.Tree.{Atom}
-use Rattle.clvm_spec.specs.Reading.{Head, PairMark, Leaf, Begins, Found, Faulty, head_at, tree_at_front}
+use Rattle.clvm_spec.specs.Reading.{Head, PairMark, Leaf, Begins, Found, head_at, tree_at_front, front_of}
 use Rattle.clvm_spec.specs.Reading
 use Rattle.clvm_spec.proofs.HeadLaws.{head_shrinks, head_suffix}
 use Rattle.clvm_spec.proofs.NumberLaws.{all_bytes}
-use Rattle.clvm_spec.proofs.FrontLaws.{front_flawed, front_leaf, front_open}
+use Rattle.clvm_spec.proofs.FrontLaws.{front_leaf, front_open}
 use Rattle.clvm_tree.specs.Nodes.{tree_at}
 use Rattle.clvm_tree.specs.Reads.{resumed, AreOpen}
 use Rattle.clvm_tree.proofs.NodeLaws.{grows_on}
-use Rattle.clvm_tree.proofs.ResumeLaws.{resumed-push, resumed-faulty, resumed-grows, AreOpen-grows, AreOpen-push, closes_some, closes_none, flaw_at, drop_by_length, spelled_front}
+use Rattle.clvm_tree.proofs.ResumeLaws.{resumed-push, resumed-grows, AreOpen-grows, AreOpen-push, closes_some, closes_none, flaw_at, drop_by_length, spelled_front}
 use Rattle.clvm_tree.proofs.arena.Trees.read.Goals as goal
 use Rattle.clvm_tree.proofs.arena.Trees.read.Goals.{In-Leaf, In_ok-leaf-in-Leaf}
 
@@ -94,12 +94,12 @@ returns-in-Some-clause-found c =
     let closes = closes_some c.atom.new.self c.close.new.self c.heads.begun.items c.close.new.begun.items (tree_at c.atom.new.self c.in_ok-leaf-in-Leaf.leaf.0) c.in_ok-tree-in-Leaf.field-0 c.in-Some.tree c.in-Some.is c.in_ok-tree-in-Leaf.ensures.closes in
     let count = length bytes - length after in
     let whole = tree_at c.close.new.self c.in-Some.tree.0 in
-    let found : tree_at_front bytes ≡ Found whole (drop count bytes) = with_leaf at.In_ok-leaf-in-Leaf ∙ closes.1 after ∙ ap (Found whole) (drop_by_length bytes after end.0 end.1) in
+    let found : tree_at_front bytes ≡ Found whole after = with_leaf at.In_ok-leaf-in-Leaf ∙ closes.1 after in
     record {
       known = closes.0;
       within = omega arith;
-      found = found;
-      spelled = spelled_front bytes whole count (all_bytes bytes (λ i. (c.type_inv.bytes i).fits)) found;
+      read = ap (front_of bytes) found;
+      spelled = spelled_front bytes whole count (all_bytes bytes (λ i. (c.type_inv.bytes i).fits)) (found ∙ ap (Found whole) (drop_by_length bytes after end.0 end.1));
     }
 
 pub heads-smaller : goal.heads-smaller
@@ -121,20 +121,12 @@ heads-preserved c =
 
 pub returns-in-Cut-clause-fault : goal.returns-in-Cut-clause-fault
 returns-in-Cut-clause-fault c =
-    let rest = c.heads.rest.now in (
-      rest,
-      c.heads.invariant.same ∙ ap (resumed c.heads.self c.heads.begun.items) (front_flawed rest Reading.Cut (sym c.in-Cut.ensures))
-          ∙ resumed-faulty c.heads.self c.heads.begun.items Reading.Cut rest,
-    )
+    (_, flaw_at c.heads.self c.heads.begun.items c.args.bytes.now c.heads.rest.now Reading.Cut c.heads.invariant.same (sym c.in-Cut.ensures))
 
 pub returns-in-LongSpelling-clause-fault : goal.returns-in-LongSpelling-clause-fault
 returns-in-LongSpelling-clause-fault c =
-    let rest = c.heads.rest.now in
-    let head = sym c.in-LongSpelling.ensures in
-    flaw_at c.heads.self c.heads.begun.items c.args.bytes.now rest Reading.LongSpelling c.heads.invariant.suffix.0 c.heads.invariant.suffix.1 c.heads.invariant.within c.heads.invariant.same head (λ e. cc)
+    flaw_at c.heads.self c.heads.begun.items c.args.bytes.now c.heads.rest.now Reading.LongSpelling c.heads.invariant.same (sym c.in-LongSpelling.ensures)
 
 pub returns-in-BadPrefix-clause-fault : goal.returns-in-BadPrefix-clause-fault
 returns-in-BadPrefix-clause-fault c =
-    let rest = c.heads.rest.now in
-    let head = sym c.in-BadPrefix.ensures in
-    flaw_at c.heads.self c.heads.begun.items c.args.bytes.now rest Reading.BadPrefix c.heads.invariant.suffix.0 c.heads.invariant.suffix.1 c.heads.invariant.within c.heads.invariant.same head (λ e. cc)
+    flaw_at c.heads.self c.heads.begun.items c.args.bytes.now c.heads.rest.now Reading.BadPrefix c.heads.invariant.same (sym c.in-BadPrefix.ensures)

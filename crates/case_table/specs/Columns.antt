@@ -1,0 +1,16 @@
+-- How a row of the table writes the columns of the definitions' table. This project's own.
+use Rattle.std.specs.Prelude.{ℕ, Option, Some, None}
+use Rattle.clvm_spec.specs.OperatorTable.{Operands, Any, Pairs, Atoms, Numbers, AtomAndNumbers}
+use Rattle.case_table.specs.declared.operator_table.TheConstants.{ANY, PAIRS, ATOMS, NUMBERS, ATOM_AND_NUMBERS}
+
+-- the largest count of operands: 255 stands for any count
+abbrev pub high_code : Option ℕ → ℕ
+high_code None = 255
+high_code (Some most) = most
+
+abbrev pub kind_code : Operands → ℕ
+kind_code Any = ANY
+kind_code Pairs = PAIRS
+kind_code Atoms = ATOMS
+kind_code Numbers = NUMBERS
+kind_code AtomAndNumbers = ATOM_AND_NUMBERS

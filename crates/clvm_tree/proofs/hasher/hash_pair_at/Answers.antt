@@ -1,0 +1,53 @@
+use Rattle.std.proofs.Common.{sym, ◌∙◌, ap, arith}
+use Rattle.clvm_spec.specs.Hashing.{pair_hash, tree_hash}
+use Rattle.clvm_tree.specs.Nodes.{tree_at}
+use Rattle.clvm_tree.specs.Arena.{trees_of}
+use Rattle.clvm_tree.specs.declared.arena.Entry.TheVariants.{Bytes, Two}
+use Rattle.clvm_tree.proofs.ArenaLaws.{entry_is}
+use Rattle.clvm_tree.proofs.ReadyLaws.{ready_later, ready_pair, ready_atom}
+use Rattle.clvm_tree.proofs.hasher.hash_pair_at.Goals as goal
+
+pub hash_at-requires-clause-known : goal.hash_at-requires-clause-known
+hash_at-requires-clause-known c =
+    let facts = entry_is c.args.entries.now c.args.bytes.now c.args.place (Bytes 0 0) (Two c.in-Two.first c.in-Two.rest) c.requires.arena c.requires.entry c.requires.known c.in-Two.is in
+    omega (arith, facts.0.0, c.requires.known)
+
+pub hash_at-requires-clause-earlier : goal.hash_at-requires-clause-earlier
+hash_at-requires-clause-earlier c =
+    let facts = entry_is c.args.entries.now c.args.bytes.now c.args.place (Bytes 0 0) (Two c.in-Two.first c.in-Two.rest) c.requires.arena c.requires.entry c.requires.known c.in-Two.is in
+    facts.0.0
+
+pub hash_at-requires-in-Two-clause-known : goal.hash_at-requires-in-Two-clause-known
+hash_at-requires-in-Two-clause-known c =
+    let facts = entry_is c.args.entries.now c.args.bytes.now c.args.place (Bytes 0 0) (Two c.in-Two.first c.in-Two.rest) c.requires.arena c.requires.entry c.requires.known c.in-Two.is in
+    omega (arith, facts.0.1, c.requires.known)
+
+pub hash_at-requires-in-Two-clause-earlier : goal.hash_at-requires-in-Two-clause-earlier
+hash_at-requires-in-Two-clause-earlier c =
+    let facts = entry_is c.args.entries.now c.args.bytes.now c.args.place (Bytes 0 0) (Two c.in-Two.first c.in-Two.rest) c.requires.arena c.requires.entry c.requires.known c.in-Two.is in
+    facts.0.1
+
+pub let_go-requires-in-Two-clause-long : goal.let_go-requires-in-Two-clause-long
+let_go-requires-in-Two-clause-long c =
+    let trees = trees_of c.args.bytes.now c.args.entries.now in
+    (c.let_go.ensures trees (ready_later trees c.args.uses.now c.hash_at-in-Two.new.kept c.args.place c.args.place c.in_ok-rest_hash.ensures.ready)).long
+
+pub put-requires : goal.put-requires
+put-requires c =
+    let trees = trees_of c.args.bytes.now c.args.entries.now in
+    let before = c.let_go.ensures trees (ready_later trees c.args.uses.now c.hash_at-in-Two.new.kept c.args.place c.args.place c.in_ok-rest_hash.ensures.ready) in
+    omega (arith, (c.let_go-in-Two.ensures trees before).long, c.requires.within)
+
+pub returns-in_ok-put : goal.returns-in_ok-put
+returns-in_ok-put c =
+    let trees = trees_of c.args.bytes.now c.args.entries.now in
+    let facts = entry_is c.args.entries.now c.args.bytes.now c.args.place (Bytes 0 0) (Two c.in-Two.first c.in-Two.rest) c.requires.arena c.requires.entry c.requires.known c.in-Two.is in
+    let before = c.let_go.ensures trees (ready_later trees c.args.uses.now c.hash_at-in-Two.new.kept c.args.place c.args.place c.in_ok-rest_hash.ensures.ready) in
+    ready_pair trees c.args.uses.now c.let_go-in-Two.new.kept c.put.new.self c.args.place c.pair_hash.result (c.let_go-in-Two.ensures trees before) c.in_ok-put.ensures
+    (c.pair_hash.ensures ∙ ap (λ h. pair_hash h c.in_ok-rest_hash.rest_hash) c.in_ok-first_hash.ensures.hash
+    ∙ ap (pair_hash (tree_hash (tree_at trees c.in-Two.first.0))) c.in_ok-rest_hash.ensures.hash ∙ ap tree_hash (sym facts.1))
+
+pub returns-in_default : goal.returns-in_default
+returns-in_default c =
+    let facts = entry_is c.args.entries.now c.args.bytes.now c.args.place (Bytes 0 0) (Bytes c.in_default.field-0 c.in_default.field-1) c.requires.arena c.requires.entry c.requires.known c.in_default.is in
+    ready_atom (trees_of c.args.bytes.now c.args.entries.now) c.args.uses.now c.args.kept.now c.args.place _ c.requires.ready facts.1
