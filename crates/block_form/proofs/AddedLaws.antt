@@ -10,7 +10,7 @@ use Rattle.clvm_spec.specs.Reading.{tree_of}
 use Rattle.clvm_spec.proofs.NumberLaws.{all_bytes}
 use Rattle.clvm_spec.proofs.WholeLaws.{whole_is_spelled}
 use Rattle.block_form.specs.declared.spend.Spend.{Spend}
-use Rattle.block_form.specs.Spelled.{spelled_tree}
+use Rattle.clvm_spec.specs.Spelled.{spelled_tree}
 use Rattle.block_form.specs.BundleTree.{spend_tree, spends_tree}
 use Rattle.block_form.specs.Added.{added_bytes, AddsUp}
 

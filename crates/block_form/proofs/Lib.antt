@@ -1,3 +1,2 @@
 pub mod AddedLaws
 pub mod HashLaws
-pub mod Refusals

@@ -8,7 +8,7 @@ use Rattle.coin_facts.specs.declared.hash32.Hash32.{Hash32}
 use Rattle.block_form.specs.declared.spend.Spend.{Spend}
 use Rattle.block_form.specs.declared.attested.Signed.{Signed}
 use Rattle.block_form.specs.declared.bundle.Bundle.{Bundle}
-use Rattle.block_form.specs.Spelled.{spelled_tree}
+use Rattle.clvm_spec.specs.Spelled.{spelled_tree}
 
 -- (parent puzzle amount solution)
 abbrev pub spend_tree : Spend → Tree

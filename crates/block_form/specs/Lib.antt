@@ -1,6 +1,4 @@
-pub mod Spelled
 pub mod SpendView
 pub mod Attestable
 pub mod BundleTree
-pub mod ListHash
 pub mod Added

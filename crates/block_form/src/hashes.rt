@@ -1,11 +1,10 @@
 ghost use Rattle.std.specs.Prelude.{◌≡◌, ◌^◌, ◌≤◌, pos, map, length, IsSome, IfOk};
 ghost use Rattle.clvm_spec.specs.Tree.{Atom};
 ghost use Rattle.clvm_spec.specs.Numbers.{shortest_atom};
-ghost use Rattle.clvm_spec.specs.Hashing.{tree_hash};
+ghost use Rattle.clvm_spec.specs.Hashing.{tree_hash, list_hash};
 ghost use Rattle.clvm_spec.specs.Reading.{tree_of};
-ghost use Rattle.block_form.specs.Spelled.{spelled_tree};
+ghost use Rattle.clvm_spec.specs.Spelled.{spelled_tree};
 ghost use Rattle.block_form.specs.BundleTree.{spend_tree, spends_tree, signed_tree, attested_tree, bundle_id};
-ghost use Rattle.block_form.specs.ListHash.{list_hash};
 
 use crate::{Bundle, Signed, Spend};
 use clvm_spec::shortest_bytes;

@@ -5,7 +5,6 @@ mod attested;
 mod bundle;
 mod hashes;
 mod sizes;
-mod spelled;
 mod spend;
 mod spends;
 
@@ -13,7 +12,6 @@ pub use attested::{Attested, Signed};
 pub use bundle::Bundle;
 pub use hashes::bundle_id;
 pub use sizes::{added_bytes, generator_bytes_law};
-pub use spelled::is_spelled;
 pub use spend::Spend;
 pub use spends::Spends;
 

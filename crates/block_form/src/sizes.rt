@@ -2,7 +2,7 @@ ghost use Rattle.std.specs.Prelude.{◌≡◌, ◌^◌, ◌<◌, ◌≤◌, pos,
 ghost use Rattle.clvm_spec.specs.Numbers.{shortest_atom};
 ghost use Rattle.clvm_spec.specs.Spelling.{atom_spelling, spelling};
 ghost use Rattle.clvm_spec.specs.Reading.{tree_of};
-ghost use Rattle.block_form.specs.Spelled.{spelled_tree};
+ghost use Rattle.clvm_spec.specs.Spelled.{spelled_tree};
 ghost use Rattle.block_form.specs.Added.{added_bytes, AddsUp};
 ghost use Rattle.block_form.specs.declared.spend.Spend.{Spend};
 

@@ -1,11 +1,14 @@
 -- The conditions that the value of a run lists. Source: Chia documentation of conditions; what is read of operands
 -- is this project's own.
-use Rattle.std.specs.Prelude.{ℕ, ◌^◌, ◌==◌, ◌&&◌, pos, List, [], ◌∷◌, length, nat_lt, Bool, Option, Some, None, option_map, option_and_then, if◌then◌else◌}
+use Rattle.std.specs.Prelude.{ℕ, ◌^◌, ◌==◌, ◌&&◌, pos, List, length, nat_lt, Bool, Option, Some, None, option_map, option_and_then, if◌then◌else◌}
 use Rattle.std.specs.List.{sum_by}
 use Rattle.std.specs.Str.{bytes_eq}
 use Rattle.clvm_spec.specs.Tree.{Tree, Atom, Pair}
+use Rattle.clvm_spec.specs.ProperList.{elements}
 use Rattle.clvm_spec.specs.Numbers.{unsigned, shortest_atom}
+use Rattle.clvm_spec.specs.Evaluation.{is_code}
 use Rattle.coin_facts.specs.declared.hash32.Hash32.{Hash32}
+use Rattle.chain_spec.specs.AllOf.{all_of}
 
 pub data Condition : Type 0 where
   -- makes a coin of this puzzle hash and amount
@@ -31,19 +34,13 @@ create_coin (Pair hash (Atom bytes)) = None
 create_coin (Atom bytes) = None
 
 -- No other condition is read so far.
-abbrev pub with_code : List ℕ → Tree → Option Condition
-with_code code operands = if bytes_eq code (51 ∷ []) then create_coin operands else None
-
 abbrev pub condition_of : Tree → Option Condition
-condition_of (Pair (Atom code) operands) = with_code code operands
-condition_of (Pair (Pair first rest) operands) = None
+condition_of (Pair code operands) = if is_code 51 code then create_coin operands else None
 condition_of (Atom bytes) = None
 
 -- the conditions of a proper list, from the first
 abbrev pub conditions_of : Tree → Option (List Condition)
-conditions_of (Atom []) = Some []
-conditions_of (Atom (b ∷ bytes)) = None
-conditions_of (Pair first rest) = option_and_then (λ condition. option_map (λ conditions. condition ∷ conditions) (conditions_of rest)) (condition_of first)
+conditions_of value = option_and_then (all_of condition_of) (elements value)
 
 abbrev pub cost_of_condition : Condition → ℕ
 cost_of_condition (CreateCoin hash amount) = 1_800_000

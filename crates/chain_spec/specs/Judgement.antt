@@ -9,7 +9,7 @@ use Rattle.coin_facts.specs.declared.hash32.Hash32.{Hash32}
 use Rattle.coin_facts.specs.declared.coin.Coin.{Coin}
 use Rattle.coin_facts.specs.CoinId.{coin_id}
 use Rattle.block_form.specs.declared.spend.Spend.{Spend}
-use Rattle.block_form.specs.Spelled.{spelled_tree}
+use Rattle.clvm_spec.specs.Spelled.{spelled_tree}
 use Rattle.block_form.specs.BundleTree.{generator}
 use Rattle.chain_spec.specs.Chain.{Chain, is_same_id, is_in_chain}
 use Rattle.chain_spec.specs.Runs.{Done, run_of}

@@ -1,3 +1,4 @@
+pub mod AllOf
 pub mod LimitsView
 pub mod Chain
 pub mod Runs

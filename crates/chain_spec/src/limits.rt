@@ -14,13 +14,13 @@ pub struct Limits {
 
 impl Model for Limits {
     ghost use Rattle.std.specs.Prelude.{◌≤◌};
-    ghost use Rattle.chain_spec.specs.LimitsView.{LimitsView};
+    ghost use Rattle.chain_spec.specs.LimitsView.{LimitsView, greatest_max_cost};
 
     ghost Value = { LimitsView };
 
     ghost view = { λ l. record { max_cost = l.max_cost; pool_cost = l.pool_cost; reward = l.reward; singleton = l.singleton } };
 
-    ghost invariant = { λ l. (l.max_cost ≤ 22_000_000_000) × (l.pool_cost ≤ 220_000_000_000) };
+    ghost invariant = { λ l. (l.max_cost ≤ greatest_max_cost) × (l.pool_cost ≤ 220_000_000_000) };
 
     ghost inverse = { λ v. record { max_cost = v.max_cost; pool_cost = v.pool_cost; reward = v.reward; singleton = v.singleton } };
 }

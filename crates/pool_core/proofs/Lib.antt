@@ -2,7 +2,7 @@ mod AdmitLaws
 mod Amounts
 mod CostLaws
 mod Digits
+mod ElementLaws
 mod IdLaws
 mod JudgeLaws
 mod PaymentLaws
-mod SpelledLaws

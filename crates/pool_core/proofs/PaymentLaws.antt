@@ -1,18 +1,18 @@
 -- A puzzle pays exactly where its coins are read, and these are the coins of its spend.
-use Rattle.std.proofs.Common.{◌≡◌, ℕ, suc, ◌+◌, ◌*◌, Bool, true, false, ◌&&◌, if◌then◌else◌, Option, Some, None, List, [], ◌∷◌, length, map, refl, ap, sym, ◌∙◌, subst, arith}
+use Rattle.std.proofs.Common.{◌≡◌, ℕ, suc, ◌+◌, ◌*◌, ◌==◌, Bool, true, false, ◌&&◌, if◌then◌else◌, Option, Some, None, List, [], ◌∷◌, length, map, refl, ap, sym, ◌∙◌, subst, arith}
 use Rattle.std.specs.Prelude.{is_some, option_map, option_and_then, unwrap_or}
-use Rattle.std.specs.Str.{bytes_eq}
-use Rattle.std.proofs.lemmas.Slice.Eq.{bytes_eq-Decides}
-use Rattle.std.proofs.lemmas.Bool.{false≢true}
+use Rattle.std.proofs.lemmas.Bool.{false≢true, eqb-true}
 use Rattle.std.proofs.lemmas.List.Sums.{sum_by-cons}
 use Rattle.clvm_spec.specs.Tree.{Tree, Atom, Pair, nil}
+use Rattle.clvm_spec.specs.ProperList.{elements}
 use Rattle.clvm_spec.specs.Reading.{tree_of}
 use Rattle.clvm_spec.specs.Hashing.{tree_hash}
+use Rattle.clvm_spec.specs.Evaluation.{evaluation}
 use Rattle.coin_facts.specs.declared.hash32.Hash32.{Hash32}
 use Rattle.coin_facts.specs.declared.coin.Coin.{Coin}
 use Rattle.coin_facts.specs.CoinId.{coin_id}
 use Rattle.block_form.specs.declared.spend.Spend.{Spend}
-use Rattle.block_form.specs.Spelled.{spelled_tree}
+use Rattle.clvm_spec.specs.Spelled.{spelled_tree}
 use Rattle.chain_spec.specs.Runs.{run_of}
 use Rattle.chain_spec.specs.Conditions.{Condition, CreateCoin, condition_of, conditions_of, cost_of_condition, cost_of_conditions}
 use Rattle.chain_spec.specs.Judgement.{Facts, coin_of, facts_of_run, facts_of, facts_or_none, coins_made_by}
@@ -20,6 +20,7 @@ use Rattle.pool_spec.specs.Payment.{is_triple, are_triples, pays}
 use Rattle.pool_core.specs.declared.payment.Payment.{Payment}
 use Rattle.pool_core.specs.Payments.{paid_coin, paid_coins, quoted_coins}
 use Rattle.pool_core.specs.SpendPayments.{payment_at, is_paying, IsPayment}
+use Rattle.pool_core.proofs.ElementLaws.{with_first, all_of-more}
 
 -- the coins of the conditions, where all are triples
 made : Hash32 → Bool → Option (List Condition) → Option (List Coin)
@@ -27,8 +28,8 @@ made parent triples conditions = if triples then option_map (map (coin_of parent
 
 -- one condition more in front
 made-more : (parent : Hash32) (triple : Bool) (condition : Option Condition) (triples : Bool) (conditions : Option (List Condition))
-    → option_and_then (λ coin. option_map (λ coins. coin ∷ coins) (made parent triples conditions)) (if triple then option_map (coin_of parent) condition else None)
-    ≡ made parent (triple && triples) (option_and_then (λ c. option_map (λ cs. c ∷ cs) conditions) condition)
+    → with_first (if triple then option_map (coin_of parent) condition else None) (made parent triples conditions)
+    ≡ made parent (triple && triples) (with_first condition conditions)
 unfolding made
 made-more parent true (Some c) true (Some cs) = refl
 made-more parent true (Some c) true None = refl
@@ -42,8 +43,15 @@ unfolding made
 paid_coins-made parent (Atom []) = refl
 paid_coins-made parent (Atom (b ∷ bytes)) = refl
 paid_coins-made parent (Pair first rest) =
-    ap (λ more. option_and_then (λ coin. option_map (λ coins. coin ∷ coins) more) (paid_coin parent first)) (paid_coins-made parent rest)
+    all_of-more (paid_coin parent) first (elements rest)
+    ∙ ap (with_first (paid_coin parent first)) (paid_coins-made parent rest)
     ∙ made-more parent (is_triple first) (condition_of first) (are_triples rest) (conditions_of rest)
+    ∙ ap (made parent (is_triple first && are_triples rest)) (sym (all_of-more condition_of first (elements rest)))
+
+-- The run of a quoted puzzle is done with what is quoted, whatever the solution.
+quoted_run : (value solution : Tree) → run_of (Pair (Atom (1 ∷ [])) value) solution ≡ Some (record { value = value; cost = 20 })
+unfolding evaluation
+quoted_run value solution = refl
 
 abbrev pub facts_with : List Condition → Facts
 facts_with conditions = record { cost = 20 + cost_of_conditions conditions; conditions = conditions }
@@ -75,7 +83,7 @@ by_value parent value solution (Some cs) true read all =
       conditions = cs;
       pays = ap (λ c. is_some c && are_triples value) read ∙ all;
       coins = paid_coins-made parent value ∙ ap (λ t. made parent t (conditions_of value)) all ∙ ap (made parent true) read;
-      facts = ap (option_map facts_with) read;
+      facts = ap (option_and_then facts_of_run) (quoted_run value solution) ∙ ap (option_map facts_with) read;
     })
 by_value parent value solution (Some cs) false read all =
     other (record {
@@ -88,9 +96,9 @@ by_value parent value solution None triples read all =
       coins = paid_coins-made parent value ∙ ap (made parent (are_triples value)) read ∙ none_made parent (are_triples value);
     })
 
-by_code : (parent : Hash32) (code : List ℕ) (value solution : Tree) (test : Bool) → bytes_eq code (1 ∷ []) ≡ test → IsPuzzle parent (Pair (Atom code) value) solution
+by_code : (parent : Hash32) (code : ℕ) (value solution : Tree) (test : Bool) → (code == 1) ≡ test → IsPuzzle parent (Pair (Atom (code ∷ [])) value) solution
 by_code parent code value solution true same =
-    subst (λ bytes. IsPuzzle parent (Pair (Atom bytes) value) solution) (sym ((bytes_eq-Decides code (1 ∷ [])).0 same))
+    subst (λ byte. IsPuzzle parent (Pair (Atom (byte ∷ [])) value) solution) (sym (eqb-true code 1 same))
     (by_value parent value solution (conditions_of value) (are_triples value) refl refl)
 by_code parent code value solution false differs =
     other (record {
@@ -102,8 +110,9 @@ by_code parent code value solution false differs =
 pub is_puzzle : (parent : Hash32) (puzzle solution : Tree) → IsPuzzle parent puzzle solution
 is_puzzle parent (Atom bytes) solution = other (record { pays = refl; coins = refl })
 is_puzzle parent (Pair (Pair a b) value) solution = other (record { pays = refl; coins = refl })
-is_puzzle parent (Pair (Atom code) value) solution =
-    by_code parent code value solution (bytes_eq code (1 ∷ [])) refl
+is_puzzle parent (Pair (Atom []) value) solution = other (record { pays = refl; coins = refl })
+is_puzzle parent (Pair (Atom (code ∷ [])) value) solution = by_code parent code value solution (code == 1) refl
+is_puzzle parent (Pair (Atom (code ∷ b ∷ bytes)) value) solution = other (record { pays = refl; coins = refl })
 
 no_facts : Facts
 no_facts = record { cost = 0; conditions = [] }

@@ -1,18 +1,15 @@
 -- The coins of a payment's conditions. Source: Chia documentation of conditions; that a payment lists nothing but
 -- (51 HASH AMOUNT) is this project's own.
-use Rattle.std.specs.Prelude.{ℕ, List, [], ◌∷◌, Bool, true, false, Option, Some, None, option_map, option_and_then, if◌then◌else◌}
-use Rattle.std.specs.Str.{bytes_eq}
+use Rattle.std.specs.Prelude.{List, Option, None, option_map, option_and_then, if◌then◌else◌}
 use Rattle.clvm_spec.specs.Tree.{Tree, Atom, Pair}
+use Rattle.clvm_spec.specs.ProperList.{elements}
+use Rattle.clvm_spec.specs.Evaluation.{is_code}
 use Rattle.coin_facts.specs.declared.hash32.Hash32.{Hash32}
 use Rattle.coin_facts.specs.declared.coin.Coin.{Coin}
+use Rattle.chain_spec.specs.AllOf.{all_of}
 use Rattle.chain_spec.specs.Conditions.{condition_of}
 use Rattle.chain_spec.specs.Judgement.{coin_of}
 use Rattle.pool_spec.specs.Payment.{is_triple}
-
--- the atom of this one byte
-abbrev pub is_code : ℕ → Tree → Bool
-is_code code (Atom bytes) = bytes_eq bytes (code ∷ [])
-is_code code (Pair first rest) = false
 
 -- the coin that one (51 HASH AMOUNT) makes
 abbrev pub paid_coin : Hash32 → Tree → Option Coin
@@ -20,14 +17,7 @@ paid_coin parent condition = if is_triple condition then option_map (coin_of par
 
 -- the coins of a proper list of them, from the first
 abbrev pub paid_coins : Hash32 → Tree → Option (List Coin)
-paid_coins parent (Atom []) = Some []
-paid_coins parent (Atom (b ∷ bytes)) = None
-paid_coins parent (Pair first rest) = option_and_then (λ coin. option_map (λ coins. coin ∷ coins) (paid_coins parent rest)) (paid_coin parent first)
-
-abbrev pub is_nil : Tree → Bool
-is_nil (Atom []) = true
-is_nil (Atom (b ∷ bytes)) = false
-is_nil (Pair first rest) = false
+paid_coins parent value = option_and_then (all_of (paid_coin parent)) (elements value)
 
 -- the coins of (q . X)
 abbrev pub quoted_coins : Hash32 → Tree → Option (List Coin)

@@ -2,10 +2,12 @@
 ghost use Rattle.std.specs.Prelude.{◌≡◌, ℕ, false, ◌∷◌, [], option_map, IfOk, MatchOption};
 ghost use Rattle.std.specs.Prelude.{Some, None};
 ghost use Rattle.clvm_spec.specs.Tree.{list_tree};
+ghost use Rattle.clvm_spec.specs.Evaluation.{is_code};
+ghost use Rattle.clvm_spec.specs.Operators.{is_nil};
 ghost use Rattle.clvm_tree.specs.Nodes.{tree_at, IsKnown};
 ghost use Rattle.chain_spec.specs.Conditions.{hash_of, amount_of};
 ghost use Rattle.pool_spec.specs.Payment.{is_triple};
-ghost use Rattle.pool_core.specs.Payments.{is_code, is_nil, paid_coin, paid_coins};
+ghost use Rattle.pool_core.specs.Payments.{paid_coin, paid_coins};
 ghost use Rattle.pool_core.specs.Triples.{IsTripleOf};
 
 use crate::coins::Coins;

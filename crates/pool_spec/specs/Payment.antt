@@ -1,12 +1,12 @@
 -- The bundles that the pool judges so far: payments, whose puzzles are quoted lists of created coins. Source: this
 -- project's own.
-use Rattle.std.specs.Prelude.{◌&&◌, ◌==◌, List, [], ◌∷◌, length, nat_lt, nat_le, Bool, true, false, not, is_some, is_none}
+use Rattle.std.specs.Prelude.{◌&&◌, ◌==◌, List, [], length, nat_lt, nat_le, Bool, true, false, not, is_some, is_none}
 use Rattle.std.specs.List.{list_all}
-use Rattle.std.specs.Str.{bytes_eq}
 use Rattle.clvm_spec.specs.Tree.{Tree, Atom, Pair}
 use Rattle.block_form.specs.declared.spend.Spend.{Spend}
 use Rattle.block_form.specs.declared.bundle.Bundle.{Bundle}
-use Rattle.block_form.specs.Spelled.{spelled_tree}
+use Rattle.clvm_spec.specs.Spelled.{spelled_tree}
+use Rattle.clvm_spec.specs.Evaluation.{is_code}
 use Rattle.chain_spec.specs.Chain.{Chain, is_in_chain}
 use Rattle.chain_spec.specs.Conditions.{conditions_of}
 use Rattle.chain_spec.specs.Judgement.{created_ids, created_amounts, spent_amounts, repeat_behind}
@@ -22,8 +22,7 @@ are_triples (Atom bytes) = true
 
 -- (q . X), where X is a proper list of (51 HASH AMOUNT)
 abbrev pub pays : Tree → Bool
-pays (Pair (Atom code) value) = bytes_eq code (1 ∷ []) && is_some (conditions_of value) && are_triples value
-pays (Pair (Pair first rest) value) = false
+pays (Pair first value) = is_code 1 first && is_some (conditions_of value) && are_triples value
 pays (Atom bytes) = false
 
 -- No two created coins have one id. So no spend creates two coins of one puzzle hash and amount.

@@ -1,12 +1,12 @@
 -- The members of a JSON object of a session. Source: this project's own.
-use Rattle.std.specs.Prelude.{ℕ, List, Bool, Option, Some, None, is_some, option_map, if◌then◌else◌, codes}
+use Rattle.std.specs.Prelude.{ℕ, List, Bool, Option, Some, is_some, option_map, codes}
 use Rattle.std.specs.Result.{result_ok}
 use Rattle.hex.specs.Hex.{decode_of, decode_sized}
 use Rattle.serde_json.specs.Data.{Data}
 use Rattle.serde_json.specs.Find.{get, as_number, as_str, as_u64}
 use Rattle.coin_facts.specs.declared.hash32.Hash32.{Hash32}
 use Rattle.coin_facts.specs.declared.coin.Coin.{Coin}
-use Rattle.block_form.specs.Spelled.{is_spelled}
+use Rattle.clvm_spec.specs.Spelled.{if_spelled}
 use Rattle.session_spec.specs.Steps.{◌>>=◌}
 
 abbrev pub has : List ℕ → Data → Bool
@@ -35,9 +35,6 @@ abbrev pub hash : Data → Option Hash32
 hash value = as_str value >>= text_hash
 
 -- the bytes of one spelled tree
-abbrev pub if_spelled : List ℕ → Option (List ℕ)
-if_spelled code = if is_spelled code then Some code else None
-
 abbrev pub code : Data → Option (List ℕ)
 code value = bytes value >>= if_spelled
 

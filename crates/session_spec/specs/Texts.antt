@@ -3,14 +3,12 @@ use Rattle.std.specs.Prelude.{ℕ, suc, List, [], ◌∷◌, ◌++◌, length, O
 use Rattle.std.specs.List.{flat_map}
 use Rattle.std.specs.Fmt.{decimal}
 use Rattle.hex.specs.Hex.{encode_lower}
+pub use Rattle.clvm_spec.specs.Lines.{line_feed}
 use Rattle.coin_facts.specs.declared.hash32.Hash32.{Hash32}
 use Rattle.chain_spec.specs.declared.chain.Record.{Record}
 use Rattle.pool_spec.specs.Admission.{Admission, Admitted, Refused}
 use Rattle.pool_spec.specs.Step.{Reply, Answered, NoCoin, Found, Memory}
 use Rattle.pool_spec.specs.History.{Entry}
-
-abbrev pub line_feed : List ℕ
-line_feed = 10 ∷ []
 
 -- a word behind a space
 abbrev pub spaced : List ℕ → List ℕ

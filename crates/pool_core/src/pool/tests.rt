@@ -1,6 +1,6 @@
 //! Expected ids and costs come from a program outside the repository.
 ghost use Rattle.std.specs.Prelude.{◌≡◌, ◌≤◌, [], IfOk, IsTrue};
-ghost use Rattle.block_form.specs.Spelled.{is_spelled};
+ghost use Rattle.clvm_spec.specs.Spelled.{is_spelled};
 
 use super::*;
 use block_form::{Attested, Signed, Spends};

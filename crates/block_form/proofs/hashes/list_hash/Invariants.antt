@@ -1,5 +1,5 @@
 use Rattle.std.proofs.Common.{◌≡◌, drop}
-use Rattle.block_form.specs.ListHash.{list_hash}
+use Rattle.clvm_spec.specs.Hashing.{list_hash}
 use Rattle.block_form.proofs.hashes.list_hash.Given as goal
 
 abbrev pub invariant-loop-place : goal.invariant-loop-place

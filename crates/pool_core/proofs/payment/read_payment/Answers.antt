@@ -1,12 +1,10 @@
-use Rattle.std.proofs.Common.{◌≡◌, true, Some, sym, ap, ◌∙◌, subst, IfOk}
+use Rattle.std.proofs.Common.{◌≡◌, Some, sym, ap, ◌∙◌, subst, IfOk}
 use Rattle.std.proofs.lemmas.Result.{IfOk-weaker}
 use Rattle.clvm_spec.specs.Reading.{tree_of}
 use Rattle.clvm_tree.specs.Nodes.{tree_at}
 use Rattle.block_form.specs.declared.spend.Spend.{Spend}
-use Rattle.block_form.specs.Spelled.{is_spelled}
 use Rattle.pool_core.specs.SpendPayments.{payment_at, IsPayment}
 use Rattle.pool_core.proofs.PaymentLaws.{payment_at-read}
-use Rattle.pool_core.proofs.SpelledLaws.{spelled_no_fault}
 use Rattle.pool_core.proofs.payment.read_payment.Goals as goal
 
 pub returns-in-Ok : goal.returns-in-Ok
@@ -15,8 +13,3 @@ returns-in-Ok c =
     let read : tree_of c.spend.inside.puzzle ≡ Some (tree_at c.read_whole.new.self c.in-Ok.puzzle.0) = ap tree_of (sym c.as_slice.ensures) ∙ c.in-Ok.ensures.found in
     subst (λ s. IfOk c.payment_at.result (IsPayment s)) c.spend.view_is
     (IfOk-weaker c.payment_at.result (λ found. found ≡ payment_at c.spend.inside.coin (tree_at c.read_whole.new.self c.in-Ok.puzzle.0)) (IsPayment the_spend) (λ found e. payment_at-read the_spend _ found read e) c.payment_at.ensures)
-
--- A spend's puzzle is spelled, so only memory can be wanting.
-pub unreachable-requires : goal.unreachable-requires
-unreachable-requires c =
-    spelled_no_fault c.as_slice.result.now c.in-Err.fault (subst (λ b. is_spelled b ≡ true) (sym c.as_slice.ensures) c.spend.invariant.0) c.in_default.not-OutOfMemory c.in-Err.ensures.fault
