@@ -47,12 +47,14 @@ form-or-fault : (it : Command) (input words : List ℕ) → IsInForm it input �
 form-or-fault command.Session input words form fault = let none = fault.0 in absurd (search rules)
 form-or-fault command.Hash input words form fault = absurd (search rules)
 form-or-fault (command.Eval cost as_text env) input words form fault = absurd (search rules)
+form-or-fault (command.Curry arguments) input words form fault = absurd (search rules)
 
 -- an input with an output has no fault
 output-or-fault : (it : Command) (input output words : List ℕ) → HasOutput it input output → HasFault it input words → ⊥
 output-or-fault command.Session input output words out fault = let one = out.of_input in let none = fault.0 in absurd (search rules)
 output-or-fault command.Hash input output words out fault = absurd (search rules)
 output-or-fault (command.Eval cost as_text env) input output words out fault = absurd (search rules)
+output-or-fault (command.Curry arguments) input output words out fault = absurd (search rules)
 
 -- the same of what was read
 fault-of : (said : Option Command) (reading : Reading) (writing : Writing) (it other : Command) (input words : List ℕ)

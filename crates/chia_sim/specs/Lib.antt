@@ -5,6 +5,7 @@ pub mod Looks
 pub mod Outside
 pub mod Tools
 pub mod Evals
+pub mod Curries
 pub mod Outputs
 pub mod Played
 pub mod Headline

@@ -2,6 +2,7 @@ ghost use Rattle.std.specs.Prelude.{◌≤◌, IfOk, length};
 ghost use Rattle.chia_sim.specs.Outside.{most_bytes};
 ghost use Rattle.chia_sim.specs.Stops.{IsAnswer};
 
+use crate::curry::curry_answer;
 use crate::eval::eval_answer;
 use crate::hash::hash_answer;
 use crate::session::session_answer;
@@ -29,5 +30,6 @@ pub(crate) fn answer_to(
         Command::Session => session_answer(alloc, &input),
         Command::Hash => hash_answer(alloc, input),
         Command::Eval { cost, as_text, env } => eval_answer(alloc, cost, as_text, &env, input),
+        Command::Curry { arguments } => curry_answer(alloc, &arguments, input),
     }
 }

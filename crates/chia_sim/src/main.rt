@@ -3,6 +3,7 @@
 
 mod answer;
 mod bundles;
+mod curry;
 mod eval;
 mod form;
 mod hash;

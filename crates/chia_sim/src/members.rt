@@ -1,12 +1,12 @@
 //! The members of a JSON object of a session.
 ghost use Rattle.std.specs.Prelude.{◌≡◌, IsTrue, IfOk};
-ghost use Rattle.block_form.specs.Spelled.{is_spelled};
+ghost use Rattle.clvm_spec.specs.Spelled.{is_spelled};
 ghost use Rattle.serde_json.specs.View.{view};
 ghost use Rattle.session_spec.specs.Members.{has, whole, bytes, hash, code, coin};
 ghost use Rattle.chia_sim.specs.Reads.{Reads};
 
 use crate::form::FormFault;
-use block_form::is_spelled;
+use clvm_tree::is_spelled;
 use coin_facts::{Bytes, Coin, Hash32};
 use hex::{FromHex, FromHexError};
 use serde_json::Value;

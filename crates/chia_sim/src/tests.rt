@@ -4,6 +4,7 @@ use ports_io::{MemoryLibrary, MemorySink, MemorySource, OpenGate, Sink};
 use std::alloc::{AllocError, Global};
 use std::test::Fail;
 
+mod curries;
 mod evals;
 mod faults;
 mod forms;

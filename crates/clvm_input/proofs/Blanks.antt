@@ -1,8 +1,9 @@
 -- Blanks at the end of a text.
 use Rattle.std.proofs.Common.{◌≡◌, ◌∙◌, ℕ, zero, suc, ◌-◌, ◌≤◌, List, [], ◌∷◌, ◌++◌, length, take, get_or, true, false, refl, ap, sym, arith, if◌then◌else◌}
-use Rattle.clvm_input.specs.Texts.{is_blank, unless_blank, without_end_blanks}
+use Rattle.clvm_spec.specs.Tokens.{is_separator}
+use Rattle.clvm_input.specs.Texts.{unless_blank, without_end_blanks}
 
-pub end-blank : (text : List ℕ) (b : ℕ) → is_blank b ≡ true → without_end_blanks (text ++ b ∷ []) ≡ without_end_blanks text
+pub end-blank : (text : List ℕ) (b : ℕ) → is_separator b ≡ true → without_end_blanks (text ++ b ∷ []) ≡ without_end_blanks text
 end-blank [] b blank = ap (λ t. if t then [] else b ∷ []) blank
 end-blank (c ∷ text) b blank = ap (unless_blank c) (end-blank text b blank)
 
@@ -10,7 +11,7 @@ before-another : (c b : ℕ) (text : List ℕ) → unless_blank c (text ++ b ∷
 before-another c b [] = refl
 before-another c b (d ∷ text) = refl
 
-pub end-other : (text : List ℕ) (b : ℕ) → is_blank b ≡ false → without_end_blanks (text ++ b ∷ []) ≡ text ++ b ∷ []
+pub end-other : (text : List ℕ) (b : ℕ) → is_separator b ≡ false → without_end_blanks (text ++ b ∷ []) ≡ text ++ b ∷ []
 end-other [] b other = ap (λ t. if t then [] else b ∷ []) other
 end-other (c ∷ text) b other = ap (unless_blank c) (end-other text b other) ∙ before-another c b text
 
@@ -24,9 +25,9 @@ last-split (b ∷ c ∷ text) (suc n) d e = ap (λ t. b ∷ t) (last-split (c �
 split : (text : List ℕ) (d : ℕ) → 1 ≤ length text → text ≡ take (length text - 1) text ++ get_or text (length text - 1) d ∷ []
 split text d some = last-split text (length text - 1) d (omega (arith, some))
 
-pub blank-last : (text : List ℕ) (d : ℕ) → 1 ≤ length text → is_blank (get_or text (length text - 1) d) ≡ true
+pub blank-last : (text : List ℕ) (d : ℕ) → 1 ≤ length text → is_separator (get_or text (length text - 1) d) ≡ true
     → without_end_blanks (take (length text - 1) text) ≡ without_end_blanks text
 blank-last text d some blank = sym (ap without_end_blanks (split text d some) ∙ end-blank (take (length text - 1) text) _ blank)
 
-pub other-last : (text : List ℕ) (d : ℕ) → 1 ≤ length text → is_blank (get_or text (length text - 1) d) ≡ false → text ≡ without_end_blanks text
+pub other-last : (text : List ℕ) (d : ℕ) → 1 ≤ length text → is_separator (get_or text (length text - 1) d) ≡ false → text ≡ without_end_blanks text
 other-last text d some other = split text d some ∙ sym (ap without_end_blanks (split text d some) ∙ end-other (take (length text - 1) text) _ other)

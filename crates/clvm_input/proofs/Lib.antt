@@ -1,4 +1,3 @@
 pub mod Blanks
-pub mod Wholes
-pub mod Refusals
 pub mod Examples
+pub mod Lists

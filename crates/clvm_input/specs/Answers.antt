@@ -1,4 +1,4 @@
--- What the reader of an input answers.
+-- What the reader of an input answers. This project's own.
 use Rattle.std.specs.Prelude.{◌≡◌, List, Result, Ok, Err}
 use Rattle.clvm_spec.specs.Tree.{Tree}
 use Rattle.clvm_tree.specs.Nodes.{tree_at, IsKnown}

@@ -1,4 +1,4 @@
--- What the reader of hexadecimal answers.
+-- What the reader of hexadecimal answers. This project's own.
 use Rattle.std.specs.Prelude.{◌≡◌, ℕ, List, Option, Some, None, Result, Ok, Err, Vec}
 use Rattle.std.specs.declared.alloc.Global.{Global}
 use Rattle.clvm_input.specs.declared.Fault.TheVariants.{Hex}

@@ -1,18 +1,15 @@
 -- The bytes that a CLVM input or a CLVM word stands for: hexadecimal. Source: this project's own.
-use Rattle.std.specs.Prelude.{ℕ, ◌==◌, ◌||◌, ◌&&◌, List, [], ◌∷◌, Bool, Option, if◌then◌else◌}
+use Rattle.std.specs.Prelude.{ℕ, ◌==◌, ◌&&◌, List, [], ◌∷◌, Option, if◌then◌else◌}
 use Rattle.std.specs.Result.{result_ok}
 use Rattle.hex.specs.Hex.{decode_of}
-
--- a space, a tab, CR or LF
-abbrev pub is_blank : ℕ → Bool
-is_blank b = (b == 32) || (b == 9) || (b == 13) || (b == 10)
+use Rattle.clvm_spec.specs.Tokens.{is_separator}
 
 abbrev pub without_front_blanks : List ℕ → List ℕ
 without_front_blanks [] = []
-without_front_blanks (b ∷ bytes) = if is_blank b then without_front_blanks bytes else b ∷ bytes
+without_front_blanks (b ∷ bytes) = if is_separator b then without_front_blanks bytes else b ∷ bytes
 
 abbrev pub unless_blank : ℕ → List ℕ → List ℕ
-unless_blank b [] = if is_blank b then [] else b ∷ []
+unless_blank b [] = if is_separator b then [] else b ∷ []
 unless_blank b (c ∷ bytes) = b ∷ c ∷ bytes
 
 abbrev pub without_end_blanks : List ℕ → List ℕ

@@ -1,19 +1,23 @@
 -- What a CLVM word is: the hexadecimal of exactly one spelled tree, with no blank around it. Source: this project's own.
-use Rattle.std.specs.Prelude.{ℕ, ◌&&◌, Bool, List, length, nat_le, Option, Some, None, is_some, option_and_then, if◌then◌else◌}
-use Rattle.clvm_spec.specs.Reading.{tree_of}
+use Rattle.std.specs.Prelude.{ℕ, ◌^◌, List, [], ◌∷◌, length, sum_by, nat_le, Option, Some, None, option_map, option_and_then, if◌then◌else◌}
+use Rattle.clvm_spec.specs.Spelled.{if_spelled}
 use Rattle.clvm_input.specs.Texts.{bytes_of}
-
--- the most bytes that a word stands for
-abbrev pub most_bytes : ℕ
-most_bytes = 67_108_864
-
--- one spelled tree, in no more bytes than that
-abbrev pub is_spelled : List ℕ → Bool
-is_spelled bytes = is_some (tree_of bytes) && nat_le (length bytes) most_bytes
-
-abbrev pub if_spelled : List ℕ → Option (List ℕ)
-if_spelled bytes = if is_spelled bytes then Some bytes else None
 
 -- the bytes that a word stands for, where it is a CLVM word
 abbrev pub word_of : List ℕ → Option (List ℕ)
 word_of word = option_and_then if_spelled (bytes_of word)
+
+-- ---- several words
+
+-- the bytes that each stands for, where each is a CLVM word
+abbrev pub each_of : List (List ℕ) → Option (List (List ℕ))
+each_of [] = Some []
+each_of (word ∷ words) = option_and_then (λ bytes. option_map (λ later. bytes ∷ later) (each_of words)) (word_of word)
+
+-- at most 67,108,864 bytes together
+abbrev pub if_few : List (List ℕ) → Option (List (List ℕ))
+if_few words = if nat_le (sum_by length words) (2 ^ 26) then Some words else None
+
+-- the same, where they are not too many
+abbrev pub words_of : List (List ℕ) → Option (List (List ℕ))
+words_of words = option_and_then if_few (each_of words)

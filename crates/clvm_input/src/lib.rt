@@ -9,10 +9,12 @@ mod input;
 mod tests;
 mod text;
 mod word;
+mod words;
 
 pub use clvm_tree::OutOfMemory;
 pub use input::read_input;
 pub use word::{Word, read_word};
+pub use words::{Words, read_words};
 
 /// What is wrong with an input, at the first place where it is: it isn't hexadecimal, or its bytes aren't one spelled
 /// tree. Places count the bytes that the digits stand for.

@@ -77,3 +77,31 @@ fn words_are_one_spelled_tree(rt: HostRuntime) -> Result<(), Fail> {
     }
     Ok(())
 }
+
+#[test]
+fn words_are_read_among_other_trees(rt: HostRuntime) -> Result<(), Fail> {
+    let mut trees = Trees::new(rt.alloc());
+    let text = b"0xFF0102".as_slice();
+    let word = read_word(rt.alloc(), text)?.expect(&rt, "a word");
+    assert!(rt; word.as_slice().len() < 100);
+    let node = word.read(rt.alloc(), &mut trees)?;
+    assert!(rt; trees.write(rt.alloc(), node, 100)?.as_slice() == b"\xff\x01\x02".as_slice());
+    Ok(())
+}
+
+// How many words these are.
+fn count(alloc: Global, texts: &[&str]) -> Result<Option<usize>, Fail> {
+    match read_words(alloc, texts)? {
+        Some(words) => Ok(Some(words.as_slice().len())),
+        None => Ok(None),
+    }
+}
+
+#[test]
+fn several_words_are_words_each(rt: HostRuntime) -> Result<(), Fail> {
+    assert!(rt; count(rt.alloc(), &[])? == Some(0));
+    assert!(rt; count(rt.alloc(), &["80", "0x05", "ff0102"])? == Some(3));
+    assert!(rt; count(rt.alloc(), &["80", "8080"])? == None);
+    assert!(rt; count(rt.alloc(), &["", "80"])? == None);
+    Ok(())
+}

@@ -1,6 +1,7 @@
 // Hexadecimal text.
 ghost use Rattle.std.specs.Prelude.{◌≡◌, ◌*◌, ◌≤◌, length, Option, Some, None, Result, Ok, Err, IfOk, IfErr};
-ghost use Rattle.clvm_input.specs.Texts.{is_blank, without_front_blanks, without_end_blanks, trimmed, digits_of, bytes_of};
+ghost use Rattle.clvm_spec.specs.Tokens.{is_separator};
+ghost use Rattle.clvm_input.specs.Texts.{without_front_blanks, without_end_blanks, trimmed, digits_of, bytes_of};
 ghost use Rattle.clvm_input.specs.Decoded.{IsDecoded};
 
 use crate::{Fault, InputFault};
@@ -8,7 +9,7 @@ use hex::FromHexError;
 use std::alloc::Global;
 
 fn is_blank(byte: u8) -> bool
-    ensures { result ≡ is_blank byte }
+    ensures { result ≡ is_separator byte }
 {
     matches!(byte, b' ' | b'\t' | b'\r' | b'\n')
 }

@@ -1,17 +1,15 @@
 // A CLVM word: one spelled tree as hexadecimal, with no blank around it.
-ghost use Rattle.std.specs.Prelude.{◌≡◌, ◌≢◌, ◌≤◌, ◌^◌, false, length, IfOk, IsSome, IsTrue};
+ghost use Rattle.std.specs.Prelude.{◌≡◌, ◌+◌, ◌<◌, ◌≤◌, ◌^◌, length, IfOk, IsSome, IsTrue};
 ghost use Rattle.clvm_spec.specs.Reading.{tree_of};
-ghost use Rattle.clvm_tree.specs.declared.ReadFault.TheVariants as read_fault;
-ghost use Rattle.clvm_input.specs.Words.{is_spelled, if_spelled, word_of};
+ghost use Rattle.clvm_spec.specs.Spelled.{if_spelled, spelled_tree};
+ghost use Rattle.clvm_tree.specs.Nodes.{tree_at, IsKnown, Grows};
+ghost use Rattle.clvm_input.specs.Words.{word_of};
 
 use crate::InputFault;
 use crate::text::bytes_of;
-use clvm_tree::{OutOfMemory, ReadFault, Trees};
+use clvm_tree::{Node, OutOfMemory, ReadFault, Trees, is_spelled};
 use std::alloc::Global;
 use std::marker::Model;
-
-// The most bytes that a word stands for.
-const MOST_BYTES: usize = 67_108_864;
 
 /// The bytes of exactly one spelled tree, at most 67,108,864 of them.
 #[derive(Debug, Drop)]
@@ -21,7 +19,7 @@ pub struct Word {
 
 impl Model for Word {
     ghost use Rattle.std.specs.Prelude.{ℕ, List, IsTrue};
-    ghost use Rattle.clvm_input.specs.Words.{is_spelled};
+    ghost use Rattle.clvm_spec.specs.Spelled.{is_spelled};
 
     ghost Value = { List ℕ };
 
@@ -38,6 +36,24 @@ impl Word {
         ensures short { length self.now ≤ 2 ^ 26 }
     {
         self.bytes.as_slice()
+    }
+
+    /// The tree that the word stands for, made among others. Earlier nodes stand, whatever the answer; without memory
+    /// there may be further nodes.
+    pub fn read(&self, alloc: Global, trees: &mut Trees) -> Result<Node, OutOfMemory>
+        requires { length trees.old + length self.now < 2 ^ 31 }
+        ensures grows { Grows trees.old trees.new }
+        ensures few { length trees.new ≤ length trees.old + length self.now }
+        ensures known { IfOk result (λ node. IsKnown trees.new node.0) }
+        ensures stands { IfOk result (λ node. tree_at trees.new node.0 ≡ spelled_tree self.now) }
+    {
+        match trees.read_whole(alloc, &self.bytes) {
+            Ok(node) => Ok(node),
+            Err(fault) => match fault {
+                ReadFault::OutOfMemory => Err(OutOfMemory),
+                _ => unreachable!(),
+            },
+        }
     }
 }
 
@@ -61,27 +77,5 @@ fn spelled_word(alloc: Global, bytes: Vec<u8>) -> Result<Option<Word>, OutOfMemo
         Ok(Some(Word { bytes }))
     } else {
         Ok(None)
-    }
-}
-
-fn is_spelled(alloc: Global, bytes: &[u8]) -> Result<bool, OutOfMemory>
-    ensures { IfOk result (λ answer. answer ≡ is_spelled bytes.now) }
-{
-    if bytes.len() > MOST_BYTES {
-        return Ok(false);
-    }
-    match Trees::new(alloc).read_whole(alloc, bytes) {
-        Ok(_) => Ok(true),
-        Err(fault) => refusal(fault),
-    }
-}
-
-// Any fault but want of memory says that the bytes are no spelled tree.
-fn refusal(fault: ReadFault) -> Result<bool, OutOfMemory>
-    ensures { IfOk result (λ answer. (answer ≡ false) × (fault ≢ read_fault.OutOfMemory)) }
-{
-    match fault {
-        ReadFault::OutOfMemory => Err(OutOfMemory),
-        _ => Ok(false),
     }
 }

@@ -1,4 +1,4 @@
--- What the command answers.
+-- What the command answers. This project's own.
 use Rattle.std.specs.Prelude.{◌≡◌, ℕ, List, Result, Ok, Err, String, string_bytes}
 use Rattle.std.specs.declared.alloc.Global.{Global}
 use Rattle.clvm_spec.specs.Tree.{Tree}

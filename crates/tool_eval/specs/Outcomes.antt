@@ -1,5 +1,5 @@
 -- What a run comes to in words. This project's own.
-use Rattle.std.specs.Prelude.{ℕ, ◌-◌, List, ◌++◌, ◌∷◌, [], length, nat_le, Bool, if◌then◌else◌, codes}
+use Rattle.std.specs.Prelude.{ℕ, List, ◌++◌, length, nat_le, if◌then◌else◌, codes}
 use Rattle.std.specs.Fmt.{decimal}
 use Rattle.hex.specs.Hex.{encode_lower}
 use Rattle.clvm_spec.specs.declared.fuel.Fuel.{Fuel}
@@ -8,8 +8,9 @@ use Rattle.clvm_spec.specs.declared.fuel.Which.TheVariants as which
 use Rattle.clvm_spec.specs.Tree.{Tree}
 use Rattle.clvm_spec.specs.Spelling.{spelling}
 use Rattle.clvm_spec.specs.Text.{printed}
+use Rattle.clvm_spec.specs.Lines.{line_feed}
 use Rattle.clvm_spec.specs.Outcomes.{Why, NoStep, NotAList, WrongCount, WrongOperand, Raised, ZeroDivisor, WrongShift, NoOperator, Outcome, Done, Failed, Spent, Wide}
-use Rattle.clvm_spec.specs.Evaluation.{run_outcome, run_cost}
+use Rattle.clvm_spec.specs.Evaluation.{run_outcome, run_cost, fuel_of}
 use Rattle.tool_eval.specs.declared.Style.{Style}
 use Rattle.tool_eval.specs.declared.Style.TheVariants.{Hexadecimal, Text}
 
@@ -38,16 +39,21 @@ which_words which.Pairs = codes "pairs"
 which_words which.Bytes = codes "bytes"
 which_words which.Depth = codes "depth"
 
-abbrev pub outcome_words : Style → Fuel → Outcome → List ℕ
-outcome_words style fuel (Done value left) = codes "value " ++ tree_words style value ++ codes " cost " ++ decimal (run_cost fuel left)
-outcome_words style fuel (Failed why form) = codes "failed " ++ why_words style why ++ codes " " ++ tree_words style form
-outcome_words style fuel (Spent count) = codes "spent " ++ which_words count
-outcome_words style fuel Wide = codes "wide"
+abbrev pub done_words : Style → Tree → ℕ → List ℕ
+done_words style value cost = codes "value " ++ tree_words style value ++ codes " cost " ++ decimal cost
 
--- the fuel of every run, but its cost
-abbrev pub fuel_of : ℕ → Fuel
-fuel_of cost = record { cost = cost; pairs = 16_777_216; bytes = 134_217_728; depth = 1_048_576 }
+abbrev pub failed_words : Style → Why → Tree → List ℕ
+failed_words style why form = codes "failed " ++ why_words style why ++ codes " " ++ tree_words style form
+
+abbrev pub spent_words : Which → List ℕ
+spent_words count = codes "spent " ++ which_words count
+
+abbrev pub outcome_words : Style → Fuel → Outcome → List ℕ
+outcome_words style fuel (Done value left) = done_words style value (run_cost fuel left)
+outcome_words style fuel (Failed why form) = failed_words style why form
+outcome_words style fuel (Spent count) = spent_words count
+outcome_words style fuel Wide = codes "wide"
 
 -- the line of a program's run on an environment
 abbrev pub run_line : Style → ℕ → Tree → Tree → List ℕ
-run_line style cost program env = outcome_words style (fuel_of cost) (run_outcome program env (fuel_of cost)) ++ 10 ∷ []
+run_line style cost program env = outcome_words style (fuel_of cost) (run_outcome program env (fuel_of cost)) ++ line_feed

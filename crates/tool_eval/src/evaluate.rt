@@ -1,8 +1,9 @@
 ghost use Rattle.std.specs.Prelude.{◌≡◌, ◌+◌, ◌<◌, ◌≤◌, ◌^◌, Some, IfOk, IsSome, length, string_bytes};
 ghost use Rattle.clvm_spec.specs.Tree.{Tree};
 ghost use Rattle.clvm_spec.specs.Reading.{tree_of};
+ghost use Rattle.clvm_spec.specs.Evaluation.{fuel_of};
 ghost use Rattle.clvm_tree.specs.Nodes.{tree_at, IsKnown, Grows};
-ghost use Rattle.tool_eval.specs.Outcomes.{fuel_of, run_line};
+ghost use Rattle.tool_eval.specs.Outcomes.{run_line};
 ghost use Rattle.tool_eval.specs.Answers.{IsEvaluated};
 
 use crate::Style;

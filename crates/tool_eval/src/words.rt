@@ -1,12 +1,12 @@
 // The words of a run's outcome.
-ghost use Rattle.std.specs.Prelude.{◌≡◌, ◌++◌, OnOk, codes, string_bytes};
-ghost use Rattle.std.specs.Fmt.{decimal};
+ghost use Rattle.std.specs.Prelude.{◌≡◌, ◌++◌, OnOk, string_bytes};
 ghost use Rattle.hex.specs.Hex.{encode_lower};
 ghost use Rattle.clvm_spec.specs.Text.{printed};
+ghost use Rattle.clvm_spec.specs.Outcomes.{Outcome};
 ghost use Rattle.clvm_tree.specs.Nodes.{tree_at, IsKnown};
 ghost use Rattle.clvm_eval.specs.Runs.{why_of, IsWhyKnown};
-ghost use Rattle.tool_eval.specs.Outcomes.{tree_words, why_words, which_words};
-ghost use Rattle.tool_eval.specs.Runs.{IsRunKnown, IsTold, run_words};
+ghost use Rattle.tool_eval.specs.Outcomes.{tree_words, why_words, which_words, done_words, failed_words, spent_words, outcome_words};
+ghost use Rattle.tool_eval.specs.Runs.{IsRunKnown, HasOutcome};
 
 use crate::Style;
 use clvm_eval::{Done, OutOfMemory, RunFault, Which, Why};
@@ -97,7 +97,7 @@ fn which_words(which: Which) -> &'static str
 }
 
 fn write_spent(text: &mut String, which: Which) -> Result<(), OutOfMemory>
-    ensures { OnOk result (string_bytes text.new ≡ string_bytes text.old ++ (codes "spent " ++ which_words which)) }
+    ensures { OnOk result (string_bytes text.new ≡ string_bytes text.old ++ spent_words which) }
 {
     text.push_str("spent ")?;
     text.push_str(which_words(which))
@@ -111,8 +111,7 @@ fn write_done(
     style: Style,
 ) -> Result<(), OutOfMemory>
     requires { IsKnown trees.now done.value.0 }
-    ensures { OnOk result (string_bytes text.new ≡ string_bytes text.old
-        ++ (codes "value " ++ tree_words style (tree_at trees.now done.value.0) ++ codes " cost " ++ decimal done.cost)) }
+    ensures { OnOk result (string_bytes text.new ≡ string_bytes text.old ++ done_words style (tree_at trees.now done.value.0) done.cost) }
 {
     text.push_str("value ")?;
     write_tree(alloc, text, trees, done.value, style)?;
@@ -130,8 +129,7 @@ fn write_failed(
 ) -> Result<(), OutOfMemory>
     requires why { IsWhyKnown trees.now why }
     requires form { IsKnown trees.now form.0 }
-    ensures { OnOk result (string_bytes text.new ≡ string_bytes text.old
-        ++ (codes "failed " ++ why_words style (why_of trees.now why) ++ codes " " ++ tree_words style (tree_at trees.now form.0))) }
+    ensures { OnOk result (string_bytes text.new ≡ string_bytes text.old ++ failed_words style (why_of trees.now why) (tree_at trees.now form.0)) }
 {
     text.push_str("failed ")?;
     write_why(alloc, text, trees, why, style)?;
@@ -148,8 +146,8 @@ pub(crate) fn write_run(
     style: Style,
 ) -> Result<(), OutOfMemory>
     requires { IsRunKnown trees.now run }
-    ensures words { OnOk result (string_bytes text.new ≡ string_bytes text.old ++ run_words style trees.now run) }
-    ensures told { OnOk result (IsTold run) }
+    ensures { OnOk result ((fuel : Fuel) (outcome : Outcome) → HasOutcome trees.now fuel outcome run →
+        string_bytes text.new ≡ string_bytes text.old ++ outcome_words style fuel outcome) }
 {
     match run {
         Ok(done) => write_done(alloc, text, trees, done, style),

@@ -9,3 +9,4 @@ pub mod Rules
 pub mod Answered
 pub mod Evaluations
 pub mod Names
+pub mod Curryings

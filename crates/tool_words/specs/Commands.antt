@@ -2,6 +2,7 @@
 use Rattle.std.specs.Prelude.{◌≡◌, List, [], ◌∷◌, Option, Some, None, option_map, if◌then◌else◌, codes, bytes_eq, Result, Ok, Err}
 use Rattle.tool_words.specs.Rows.{Text, Row, said_in}
 use Rattle.tool_words.specs.Evals.{eval_of}
+use Rattle.tool_words.specs.Curries.{curry_of}
 use Rattle.tool_words.specs.declared.said.Command.{Command}
 use Rattle.tool_words.specs.declared.said.Command.TheVariants.{Session, Hash}
 use Rattle.tool_words.specs.declared.said.WordsFault.{WordsFault}
@@ -16,7 +17,8 @@ abbrev pub command_by : Text → List Text → Option Command
 command_by name words =
     if bytes_eq name (codes "session") then option_map (λ said. Session) (said_in nothing words)
     else (if bytes_eq name (codes "hash") then option_map (λ said. Hash) (said_in nothing words)
-    else (if bytes_eq name (codes "eval") then eval_of words else None))
+    else (if bytes_eq name (codes "eval") then eval_of words
+    else (if bytes_eq name (codes "curry") then curry_of words else None)))
 
 abbrev pub command_of : List Text → Option Command
 command_of [] = None

@@ -1,6 +1,7 @@
 //! The program's words: which command they are, and what they say to it.
 #![tactic(auto)]
 
+mod currying;
 mod evaluation;
 mod parse;
 mod row;

@@ -2,7 +2,7 @@
 
 ghost use Rattle.std.specs.Prelude.{◌≡◌};
 
-use clvm_input::Word;
+use clvm_input::{Word, Words};
 
 /// A command, with what its words say to it.
 #[derive(Debug, Drop)]
@@ -14,6 +14,8 @@ pub enum Command {
     /// `eval`: runs the program of the input on an environment, with at most this cost, and tells trees as text or as
     /// hexadecimal.
     Eval { cost: u64, as_text: bool, env: Word },
+    /// `curry`: the program of the input, curried with these arguments.
+    Curry { arguments: Words },
 }
 
 /// Why the words give no command: they aren't one, or there is no memory.

@@ -13,6 +13,14 @@ fn told(alloc: Global, said: Result<Command, WordsFault>) -> Result<String, Fail
             let bytes = env.as_slice();
             format!(in alloc; "eval {cost} {style} {bytes:?}")?
         }
+        Ok(Command::Curry { arguments }) => {
+            let mut text = String::from_str(alloc, "curry")?;
+            for word in arguments.as_slice() {
+                let bytes = word.as_slice();
+                write!(text, " {bytes:?}")?;
+            }
+            text
+        }
         Err(WordsFault::Words) => String::from_str(alloc, "words")?,
         Err(WordsFault::OutOfMemory) => String::from_str(alloc, "memory")?,
     };
@@ -81,6 +89,14 @@ fn each_line_says_its_command(rt: HostRuntime) -> Result<(), Fail> {
         ("eval", "words"),
         ("eval --cost 80", "words"),
         ("Eval 80", "words"),
+        ("curry", "curry"),
+        ("curry 05", "curry [5]"),
+        ("curry 05 ff0180 0x80", "curry [5] [255, 1, 128] [128]"),
+        ("curry 05 8", "words"),
+        ("curry 8080 05", "words"),
+        ("curry --text 05", "words"),
+        ("curry -- 05", "words"),
+        ("curry 05 -", "words"),
     ];
     for (line, expected) in table {
         let found = said(rt.alloc(), line)?;
@@ -110,5 +126,22 @@ fn an_environment_is_one_spelled_tree(rt: HostRuntime) -> Result<(), Fail> {
         let found = said_of(rt.alloc(), word)?;
         assert!(rt; found.as_str() == expected, "{word}: {found}");
     }
+    Ok(())
+}
+
+// What `curry` with so many arguments says.
+fn said_of_many(alloc: Global, count: u32) -> Result<String, Fail> {
+    let mut words = words_of(alloc, "curry")?;
+    for _ in 0..count {
+        words.push(String::from_str(alloc, "01")?)?;
+    }
+    told(alloc, command(alloc, words.as_slice()))
+}
+
+#[test]
+fn sixty_four_arguments_are_the_most(rt: HostRuntime) -> Result<(), Fail> {
+    let most = said_of_many(rt.alloc(), 64)?;
+    assert!(rt; most.len() == 5 + 64 * 4, "{most}");
+    assert!(rt; said_of_many(rt.alloc(), 65)?.as_str() == "words");
     Ok(())
 }

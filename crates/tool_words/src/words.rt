@@ -4,6 +4,7 @@ ghost use Rattle.std.specs.Prelude.{map, option_map, string_bytes};
 ghost use Rattle.tool_words.specs.Rows.{said_in};
 ghost use Rattle.tool_words.specs.Commands.{nothing, command_of, command_by, Says};
 
+use crate::currying::currying;
 use crate::evaluation::evaluation;
 use crate::parse::parse;
 use crate::row::Row;
@@ -32,6 +33,7 @@ fn command_by(alloc: Global, name: &str, words: &[String]) -> Result<Command, Wo
         "session" => alone(alloc, Command::Session, words),
         "hash" => alone(alloc, Command::Hash, words),
         "eval" => evaluation(alloc, words),
+        "curry" => currying(alloc, words),
         _ => Err(WordsFault::Words),
     }
 }

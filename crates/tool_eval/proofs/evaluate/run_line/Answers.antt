@@ -1,5 +1,4 @@
-use Rattle.std.proofs.Common.{rules}
-use Rattle.tool_eval.proofs.RunWords.{has-outcome, run-known, words-told}
+use Rattle.tool_eval.proofs.RunWords.{has-outcome, run-known}
 use Rattle.tool_eval.proofs.evaluate.run_line.Goals as goal
 
 pub write_run-requires : goal.write_run-requires

@@ -1,4 +1,4 @@
-use Rattle.std.proofs.Common.{◌≡◌, ◌∙◌, ◌++◌, OnOk, codes, string_bytes, length, nat_le, rules, refl, ap, sym, subst, if◌then◌else◌}
+use Rattle.std.proofs.Common.{◌≡◌, ◌++◌, OnOk, codes, string_bytes, length, nat_le, rules, refl, ap, sym, subst, if◌then◌else◌}
 use Rattle.clvm_spec.specs.Spelling.{spelling}
 use Rattle.clvm_tree.specs.Nodes.{tree_at}
 use Rattle.clvm_tree.specs.Writes.{IsWriteFault}
