@@ -1,0 +1,8 @@
+pub mod LoadLaws
+pub mod UnloadLaws
+pub mod BindingLaws
+pub mod OperandLaws
+pub mod BodyLaws
+pub mod CallLaws
+pub mod MacroLaws
+pub mod WalkLaws

@@ -1,0 +1,14 @@
+pub mod Nodes
+pub mod Values
+pub mod Loads
+pub mod Unloads
+pub mod Lists
+pub mod Operators
+pub mod MacroCode
+pub mod Defined
+pub mod Faults
+pub mod Walks
+pub mod Calls
+pub mod Bindings
+pub mod Found
+pub mod Evaluations

@@ -1,0 +1,19 @@
+//! Macros: what their bodies give, and the expansion of a form by them.
+#![tactic(auto)]
+
+mod body;
+mod call;
+mod fault;
+mod given;
+mod lists;
+mod load;
+mod macros;
+mod operators;
+mod unload;
+mod value;
+mod walk;
+
+pub use fault::MacroFault;
+pub use lisp_read::{Form, OutOfMemory, Place};
+pub use macros::Macros;
+pub use walk::expand;
