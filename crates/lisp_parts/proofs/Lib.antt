@@ -1,0 +1,12 @@
+pub mod TreeWalks
+pub mod NameLaws
+pub mod ListWalks
+pub mod SymbolLaws
+pub mod TextLaws
+pub mod WalkLaws
+pub mod OpeningLaws
+pub mod EntryLaws
+pub mod ShapeLaws
+pub mod LevelLaws
+pub mod StepLaws
+pub mod WholeLaws

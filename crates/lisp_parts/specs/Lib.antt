@@ -1,0 +1,7 @@
+pub mod Faults
+pub mod Views
+pub mod Symbols
+pub mod Entries
+pub mod Steps
+pub mod Walks
+pub mod TakenApart
