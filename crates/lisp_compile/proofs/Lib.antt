@@ -1,0 +1,7 @@
+pub mod NameLaws
+pub mod PathLaws
+pub mod JobLaws
+pub mod CodingLaws
+pub mod NameLookups
+pub mod TemplateJobs
+pub mod PlainLaws

@@ -1,0 +1,8 @@
+pub mod HeadViews
+pub mod Sides
+pub mod Scopes
+pub mod Pieces
+pub mod Jobs
+pub mod Parts
+pub mod PlainForms
+pub mod Plans

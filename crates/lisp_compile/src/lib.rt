@@ -1,0 +1,10 @@
+//! The compiler: the code of a module, made on stacks of tasks and nodes, so that no depth of a form is too deep.
+#![tactic(auto)]
+
+mod forms;
+mod head;
+mod parameters;
+mod path;
+mod pieces;
+
+pub use lisp_read::OutOfMemory;
