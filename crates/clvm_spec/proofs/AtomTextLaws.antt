@@ -19,7 +19,8 @@ use Rattle.clvm_spec.specs.Numbers.{number, unsigned, shortest_atom}
 use Rattle.clvm_spec.specs.Arithmetic.{fits_128}
 use Rattle.clvm_spec.specs.OperatorTable.{Operator, operators, operator_of, operator_named}
 use Rattle.clvm_spec.specs.Tokens.{Token, Literal, Symbol, Took, is_word_byte, without_minus, is_number, number_token, hex_literal, word_token}
-use Rattle.clvm_spec.specs.Text.{is_short_number, atom_text, name_or_text, head_text, Names, named, Parses, InList, form_at}
+use Rattle.clvm_spec.specs.Text.{is_short_number, atom_text, name_or_text, head_text, Named, Names, named, clvm}
+use Rattle.clvm_spec.specs.Grammar.{Parses, InList, form_at}
 
 -- the text is a word whose token is that of the atom
 pub record IsWordOf (atom text : List ℕ) : Type 0 where
@@ -27,7 +28,7 @@ pub record IsWordOf (atom text : List ℕ) : Type 0 where
   pub some : 0 < length text
   pub token : Token
   pub token_is : word_token text ≡ Ok token
-  pub form : (list : InList) (depth : ℕ) (from rest : List ℕ) → form_at list depth (Took token from rest) ≡ Parses (Names (Atom atom)) rest
+  pub form : (list : InList Named (List ℕ)) (depth : ℕ) (from rest : List ℕ) → form_at clvm list depth (Took token from rest) ≡ Parses (Names (Atom atom)) rest
 
 literal_word : (atom text : List ℕ) → list_all is_word_byte text ≡ true → 0 < length text → word_token text ≡ Ok (Literal atom) → IsWordOf atom text
 literal_word atom text w s e = record { word = w; some = s; token = Literal atom; token_is = e; form = λ list depth from rest. refl }

@@ -7,8 +7,8 @@ use Rattle.clvm_spec.specs.declared.fuel.Fuel.{Fuel}
 use Rattle.clvm_spec.specs.declared.fuel.Which.{Which}
 use Rattle.clvm_spec.specs.Tree.{Tree, Atom}
 use Rattle.clvm_spec.specs.Outcomes.{Why, Outcome, Done, Failed, Spent, Wide}
-use Rattle.clvm_spec.specs.Evaluation.{run_outcome}
-use Rattle.clvm_spec.specs.FuelLaws.{fuel_less}
+use Rattle.clvm_spec.specs.Evaluation.{run_outcome, fuel_of}
+use Rattle.clvm_spec.specs.Spending.{fuel_less}
 use Rattle.clvm_spec.specs.Reading.{tree_of}
 use Rattle.clvm_spec.specs.Text.{Scanned, Scans, Unreadable, Unnamed, LeftOver, scanned}
 
@@ -30,7 +30,7 @@ abbrev pub spelled : String → Tree
 spelled digits = unwrap_or (option_and_then tree_of (result_ok (decode_of (codes digits)))) unreadable_tree
 
 abbrev pub ample : Fuel
-ample = record { cost = 11_000_000_000; pairs = 16_777_216; bytes = 134_217_728; depth = 1_048_576 }
+ample = fuel_of 11_000_000_000
 
 abbrev pub with_cost : ℕ → Fuel
 with_cost cost = record ample { cost = cost }

@@ -1,14 +1,15 @@
 -- Hashes of known trees, and spellings at both sides of each length of a prefix. The digests are computed by an
 -- independent program.
-use Rattle.std.specs.Prelude.{◌≡◌, ℕ, List, [], ◌∷◌, ◌++◌, length, take, codes, pos, negsuc, Some, None, Ok, refl}
+use Rattle.std.specs.Prelude.{◌≡◌, ℕ, ◌^◌, ◌≤◌, List, [], ◌∷◌, ◌++◌, length, map, take, codes, pos, negsuc, Some, None, Ok, refl}
+use Rattle.std.proofs.Common.{ap, arith}
 use Prim.Native.String.{String}
 use Rattle.std.proofs.Math.ListN.{replicate}
 use Rattle.hex.specs.Hex.{decode_of, decode_pairs}
 use Rattle.sha2.specs.Sha256.{sha256, digest_bytes, hash_after, compress, rounds, schedule, first_words}
-use Rattle.clvm_spec.specs.Tree.{Atom}
-use Rattle.clvm_spec.specs.Spelling.{spelling, prefix}
+use Rattle.clvm_spec.specs.Tree.{Tree, Atom, Pair, list_tree}
+use Rattle.clvm_spec.specs.Spelling.{spelling, prefix, Spells}
 use Rattle.clvm_spec.specs.Reading.{Flaw, Cut, LongSpelling, BadPrefix, Found, Faulty, tree_of, tree_at_front, head_at}
-use Rattle.clvm_spec.specs.Hashing.{tree_hash}
+use Rattle.clvm_spec.specs.Hashing.{pair_hash, tree_hash, list_hash}
 use Rattle.clvm_spec.specs.Numbers.{number, shortest_atom, without_sign_bytes}
 use Rattle.clvm_spec.proofs.Cases.{spelled}
 
@@ -25,6 +26,18 @@ hash_of_trees :
     × hashes "ff02ffff0102ff0180" "25ab054d6f91cf2b9aa6149776e6aad6353a0c6b32575768deeaf959144415d2"
 unfolding decode_pairs head_at tree_at_front sha256 digest_bytes hash_after compress rounds schedule first_words
 hash_of_trees = (refl, refl, refl, refl, refl, refl, refl)
+
+-- The hash of a proper list, by those of its elements.
+hash_of_lists : (trees : List Tree) → list_hash (map tree_hash trees) ≡ tree_hash (list_tree trees)
+hash_of_lists [] = refl
+hash_of_lists (tree ∷ trees) = ap (pair_hash (tree_hash tree)) (hash_of_lists trees)
+
+-- An atom of 2 ^ 27 bytes has no spelling, and so no pair with it has one.
+no_spelling : (atom bytes : List ℕ) → 2 ^ 27 ≤ length atom → Spells (Atom atom) bytes → ⊥
+no_spelling atom bytes long h = absurd (omega (arith, long, h.0))
+
+no_spelling_of_pairs : (atom bytes : List ℕ) (tree : Tree) → 2 ^ 27 ≤ length atom → (Spells (Pair (Atom atom) tree) bytes → ⊥) × (Spells (Pair tree (Atom atom)) bytes → ⊥)
+no_spelling_of_pairs atom bytes tree long = (λ h. absurd (omega (arith, long, h.0.0)), λ h. absurd (omega (arith, long, h.0.1)))
 
 -- The longest atom of each prefix, and the shortest of the next.
 prefixes :

@@ -7,8 +7,8 @@ use Rattle.std.proofs.lemmas.Bool.{cond_both, ltb-false}
 use Rattle.std.proofs.lemmas.List.Elements.{All-from_recursion}
 use Rattle.clvm_spec.specs.Numbers.{is_short}
 use Rattle.clvm_spec.specs.Tree.{Tree, Atom, Pair}
-use Rattle.clvm_spec.specs.Numbers.{number}
-use Rattle.clvm_spec.specs.Arithmetic.{fits_128}
+use Rattle.clvm_spec.specs.Numbers.{number, shortest_atom}
+use Rattle.clvm_spec.specs.Arithmetic.{fits_128, if_fits}
 use Rattle.clvm_spec.specs.Outcomes.{Why, NoStep, NotAList, WrongCount, WrongOperand, Raised, ZeroDivisor, WrongShift, NoOperator, Applied, Gives, Fails, TooWide}
 use Rattle.clvm_spec.specs.Operators as op
 use Rattle.clvm_spec.specs.OperatorTable.{Operands, Any, Atoms, Numbers, AtomAndNumbers, Operator, operator}
@@ -185,8 +185,12 @@ in_two_numbers row operands go l m k p = in_two row operands _ l m (λ a b. numb
 -- ---- what is given of them
 
 module _ {cost size : ℕ} where
+  in_held : {T : Type 0} {go : T → Applied} (held : Option T) → ((value : T) → IsGiven Numbers cost size (go value)) → IsGiven Numbers cost size (op.or_wide held go)
+  in_held None p = wide
+  in_held (Some value) p = p value
+
   in_new_number : (paid : ℕ) (n : ℤ) → cost ≤ paid → 1 ≤ paid → IsGiven Numbers cost size (op.new_number paid n)
-  in_new_number paid n h k = either (fits_128 n) _ TooWide (gives (omega arith) (omega arith)) wide
+  in_new_number paid n h k = in_held (if_fits n) (λ n. gives (omega arith) (omega arith))
 
   in_from_left : (step : ℤ → ℤ → ℤ) (so_far : ℤ) (ns : List ℤ) (paid : ℕ) → cost ≤ paid → 1 ≤ paid → IsGiven Numbers cost size (op.from_left step so_far ns (op.new_number paid))
   in_from_left step so_far [] paid h k = in_new_number paid so_far h k
@@ -204,13 +208,14 @@ in_length : (cost : ℕ) (a : Tree) (bytes : List ℕ) → 1 ≤ cost → a ≡ 
 unfolding GivenOf
 in_length cost a bytes h is =
     let size : sum_by atom_length (a ∷ []) ≡ length bytes = ap (λ (t : Tree). 0 + atom_length t) is ∙ omega arith in
-    cond_both (fits_128 (pos (length bytes))) _ TooWide (IsGiven Atoms cost (sum_by atom_length (a ∷ [])))
+    cond_both (fits_128 (pos (length bytes))) _ None (λ held. IsGiven Atoms cost (sum_by atom_length (a ∷ [])) (op.or_wide held (λ n. op.written (cost + length bytes) (shortest_atom n))))
     (λ e. gives (omega arith) (omega arith))
     (λ e. let large = ltb-false (length bytes) (2 ^ 127) e in record { fact = λ small. absurd (omega (arith, size)) })
 
-in_part : {cost size : ℕ} (b : Bool) (bytes : List ℕ) → 1 ≤ cost → IsGiven AtomAndNumbers cost size (cond b (op.new_atom cost bytes) (Fails (WrongOperand 1)))
+in_part : {cost size : ℕ} (part : Option (List ℕ)) → 1 ≤ cost → IsGiven AtomAndNumbers cost size (op.part_or_fault cost part)
 unfolding FaultOf
-in_part b bytes h = either b _ _ (gives (omega arith) h) (fails (refl, refl))
+in_part None h = fails (refl, refl)
+in_part (Some bytes) h = gives (omega arith) h
 
 -- ---- the rows
 
@@ -223,8 +228,8 @@ substr = operator 12 (codes "substr") 2 (Some 3) AtomAndNumbers 1 op.part_of
 substr_columns : IsColumned substr
 unfolding IsColumned ReadsAll substr
 substr_columns operands = in_two_or_three _ operands _ refl refl
-    (λ a start. in_atom 0 a (start ∷ []) _ (λ t. refl) (λ bytes is. in_number 1 start [] _ (λ t. refl) (λ start. fair _ refl (in_part _ _ (omega arith)))))
-    (λ a start end. in_atom 0 a (start ∷ end ∷ []) _ (λ t. refl) (λ bytes is. in_number 1 start (end ∷ []) _ (λ t. refl) (λ start. in_number 2 end [] _ (λ t. refl) (λ end. fair _ refl (in_part _ _ (omega arith))))))
+    (λ a start. in_atom 0 a (start ∷ []) _ (λ t. refl) (λ bytes is. in_number 1 start [] _ (λ t. refl) (λ start. fair _ refl (in_part _ (omega arith)))))
+    (λ a start end. in_atom 0 a (start ∷ end ∷ []) _ (λ t. refl) (λ bytes is. in_number 1 start (end ∷ []) _ (λ t. refl) (λ start. in_number 2 end [] _ (λ t. refl) (λ end. fair _ refl (in_part _ (omega arith))))))
 
 columns : AllByRecursion IsColumned rows_on_values
 unfolding IsColumned ReadsAll FaultOf substr
@@ -259,23 +264,23 @@ columns = (
                             (
                               (λ operands. in_any _ operands _ refl refl (in_numbers 0 operands _ (λ atoms. in_product 92 (get_or atoms 0 (1 ∷ [])) (drop 1 atoms) (omega arith)))),
                               (
-                                (λ operands. in_two_numbers _ operands _ refl refl refl (λ a b size. either _ _ _ (fails tt) (either _ _ _ (gives (omega arith) (omega arith)) wide))),
+                                (λ operands. in_two_numbers _ operands _ refl refl refl (λ a b size. either _ _ _ (fails tt) (in_held _ (λ n. gives (omega arith) (omega arith))))),
                                 (
                                   (λ operands. in_two_numbers _ operands _ refl refl refl (λ a b size. either _ _ _ (fails tt) (either _ _ _ (gives (omega arith) (omega arith)) wide))),
                                   (
                                     (λ operands. in_two_numbers _ operands _ refl refl refl (λ a b size. gives (omega arith) (omega arith))),
                                     (
-                                      (λ operands. in_two_numbers _ operands _ refl refl refl (λ a by size. either _ _ _ (either _ _ _ (gives (omega arith) (omega arith)) wide) (fails tt))),
+                                      (λ operands. in_two_numbers _ operands _ refl refl refl (λ a by size. either _ _ _ (in_held _ (λ n. gives (omega arith) (omega arith))) (fails tt))),
                                       (
-                                        (λ operands. in_two_numbers _ operands _ refl refl refl (λ a by size. either _ _ _ (either _ _ _ (gives (omega arith) (omega arith)) wide) (fails tt))),
+                                        (λ operands. in_two_numbers _ operands _ refl refl refl (λ a by size. either _ _ _ (in_held _ (λ n. gives (omega arith) (omega arith))) (fails tt))),
                                         (
-                                          (λ operands. in_any _ operands _ refl refl (in_numbers 0 operands _ (λ atoms. either _ _ _ (gives (omega arith) (omega arith)) wide))),
+                                          (λ operands. in_any _ operands _ refl refl (in_numbers 0 operands _ (λ atoms. in_held _ (λ n. gives (omega arith) (omega arith))))),
                                           (
-                                            (λ operands. in_any _ operands _ refl refl (in_numbers 0 operands _ (λ atoms. either _ _ _ (gives (omega arith) (omega arith)) wide))),
+                                            (λ operands. in_any _ operands _ refl refl (in_numbers 0 operands _ (λ atoms. in_held _ (λ n. gives (omega arith) (omega arith))))),
                                             (
-                                              (λ operands. in_any _ operands _ refl refl (in_numbers 0 operands _ (λ atoms. either _ _ _ (gives (omega arith) (omega arith)) wide))),
+                                              (λ operands. in_any _ operands _ refl refl (in_numbers 0 operands _ (λ atoms. in_held _ (λ n. gives (omega arith) (omega arith))))),
                                               (
-                                                (λ operands. in_one _ operands _ refl refl (λ a. in_number 0 a [] _ (λ t. refl) (λ bytes. fair _ refl (either _ _ _ (gives (omega arith) (omega arith)) wide)))),
+                                                (λ operands. in_one _ operands _ refl refl (λ a. in_number 0 a [] _ (λ t. refl) (λ bytes. fair _ refl (in_held _ (λ n. gives (omega arith) (omega arith)))))),
                                                 (
                                                   (λ operands. in_one _ operands _ refl refl (λ a. fair _ refl (gives (omega arith) (omega arith)))),
                                                   (

@@ -15,6 +15,7 @@ pub mod Cases
 mod EvaluationRows
 mod OperatorRows
 mod TextRows
+mod ColumnRows
 pub mod Steady
 pub mod Steps
 pub mod Columns
@@ -22,5 +23,7 @@ pub mod OperatorCosts
 pub mod Floor
 pub mod RemainderLaws
 pub mod ScanLaws
+pub mod GrammarLaws
+pub mod FreePlaces
 pub mod AtomTextLaws
 pub mod PrintedLaws

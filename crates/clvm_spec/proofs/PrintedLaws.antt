@@ -8,9 +8,12 @@ use Rattle.clvm_spec.specs.declared.scan_kind.ScanKind.TheVariants.{Deep, Byte}
 use Rattle.clvm_spec.specs.Tree.{Tree, Atom, Pair, nil}
 use Rattle.clvm_spec.specs.Places.{place_of}
 use Rattle.clvm_spec.specs.Tokens.{Token, Opening, Closing, Point, Literal, Symbol, Front, Took, Unread, AtEnd, is_separator, is_plain, is_mark, is_word_byte, word_token, without_blanks, word_front, word_at, quoted, at_word, at_quote, at_closing, at_front, token_of}
-use Rattle.clvm_spec.specs.Text.{atom_text, head_text, Position, AsHead, Alone, AsRest, text_at, printed, Names, Parsed, Parses, Breaks, form_at, closed, last_form, behind, with_rest, list_at, form_of, at_last, whole, scanned}
-use Rattle.clvm_spec.specs.TextLaws.{list_from, nests_within, HasBytes, PrintedIsScanned, PrintedTooDeep}
-use Rattle.clvm_spec.proofs.ScanLaws.{list_step, form_is, none_left}
+use Rattle.clvm_spec.specs.Text.{atom_text, head_text, Position, AsHead, Alone, AsRest, text_at, printed, Names, ParsedTree, clvm, form_of, at_last, whole, scanned}
+use Rattle.clvm_spec.specs.Grammar.{Parses, Breaks, form_at, closed, last_form, behind, with_rest, list_at, list_from}
+use Rattle.clvm_spec.specs.TextLaws.{nests_within, HasBytes, PrintedIsScanned, PrintedTooDeep}
+use Rattle.clvm_spec.proofs.ScanLaws.{none_left}
+use Rattle.clvm_spec.proofs.GrammarLaws.{list_step}
+use Rattle.clvm_spec.proofs.FreePlaces.{places_are_free}
 use Rattle.clvm_spec.proofs.AtomTextLaws.{IsWordOf, atom_word, head_word}
 
 -- ---- words in a text
@@ -91,11 +94,11 @@ word_read atom (b ∷ word) rest w e = word_token_at b word rest w.token w.word 
 -- ---- trees in a text
 
 -- The text has so much room that the form is read, or it is too deep.
-abbrev pub Meets : Bool → Tree → List ℕ → Parsed → Type 0
+abbrev pub Meets : Bool → Tree → List ℕ → ParsedTree → Type 0
 Meets true tree rest parsed = parsed ≡ Parses (Names tree) rest
 Meets false tree rest parsed = (from : List ℕ) × (parsed ≡ Breaks Deep None from)
 
-meets_same : (fits : Bool) (tree : Tree) (rest : List ℕ) (a b : Parsed) → a ≡ b → Meets fits tree rest b → Meets fits tree rest a
+meets_same : (fits : Bool) (tree : Tree) (rest : List ℕ) (a b : ParsedTree) → a ≡ b → Meets fits tree rest b → Meets fits tree rest a
 meets_same true tree rest a b e m = e ∙ m
 meets_same false tree rest a b e m = (m.0, e ∙ m.1)
 
@@ -111,10 +114,10 @@ fits room AsHead (Pair first rest) = nat_lt 0 room && (fits (room - 1) AsHead fi
 fits room Alone (Pair first rest) = nat_lt 0 room && (fits (room - 1) AsHead first && fits (room - 1) AsRest rest)
 fits room AsRest (Pair first rest) = fits room Alone first && fits room AsRest rest
 
-abbrev pub parsed_at : Position → ℕ → List ℕ → Parsed
-parsed_at AsHead depth text = form_at list_from depth (token_of text)
-parsed_at Alone depth text = form_at list_from depth (token_of text)
-parsed_at AsRest depth text = list_from depth true text
+abbrev pub parsed_at : Position → ℕ → List ℕ → ParsedTree
+parsed_at AsHead depth text = form_at clvm (list_from clvm) depth (token_of text)
+parsed_at Alone depth text = form_at clvm (list_from clvm) depth (token_of text)
+parsed_at AsRest depth text = list_from clvm depth [] true text
 
 ends_rest : (tree : Tree) (rest : List ℕ) → EndsWords (text_at AsRest tree ++ rest)
 ends_rest (Atom []) rest = refl
@@ -122,8 +125,8 @@ ends_rest (Atom (b ∷ bytes)) rest = refl
 ends_rest (Pair first second) rest = refl
 
 -- a list's form is read as a form, and then the rest of the list
-form_in_list : (fits : Bool) (tree : Tree) (more : List ℕ) (depth : ℕ) (begun : Bool) (front : Front) → Meets fits tree more (form_at list_from depth front) →
-    list_at list_from depth begun front ≡ with_rest list_from depth (form_at list_from depth front)
+form_in_list : (fits : Bool) (tree : Tree) (more : List ℕ) (depth : ℕ) (begun : Bool) (front : Front) → Meets fits tree more (form_at clvm (list_from clvm) depth front) →
+    list_at clvm (list_from clvm) depth [] begun front ≡ with_rest clvm (list_from clvm) depth [] (form_at clvm (list_from clvm) depth front)
 form_in_list fits tree more depth begun AtEnd m = refl
 form_in_list fits tree more depth begun (Unread kind from) m = refl
 form_in_list fits tree more depth begun (Took Opening from rest) m = refl
@@ -135,27 +138,28 @@ form_in_list true tree more depth begun (Took Point from rest) m = cc
 form_in_list false tree more depth begun (Took Point from rest) m = let e = m.1 in cc
 
 meets_pair : (a b : Bool) (first second : Tree) (more rest : List ℕ) (depth : ℕ) (begun : Bool) (text : List ℕ) →
-    Meets a first more (form_at list_from depth (token_of text)) → Meets b second rest (list_from depth true more) → Meets (a && b) (Pair first second) rest (list_from depth begun text)
+    Meets a first more (form_at clvm (list_from clvm) depth (token_of text)) → Meets b second rest (list_from clvm depth [] true more) → Meets (a && b) (Pair first second) rest (list_from clvm depth [] begun text)
 meets_pair true true first second more rest depth begun text m n =
-    list_step depth begun text ∙ form_in_list true first more depth begun (token_of text) m ∙ ap (with_rest list_from depth) m ∙ ap (behind (Names first)) n
+    list_step clvm depth [] begun text ∙ form_in_list true first more depth begun (token_of text) m ∙ ap (with_rest clvm (list_from clvm) depth []) m ∙ ap (behind clvm [] (Names first)) n
 meets_pair true false first second more rest depth begun text m n =
-    (n.0, list_step depth begun text ∙ form_in_list true first more depth begun (token_of text) m ∙ ap (with_rest list_from depth) m ∙ ap (behind (Names first)) n.1)
+    (n.0, list_step clvm depth [] begun text ∙ form_in_list true first more depth begun (token_of text) m ∙ ap (with_rest clvm (list_from clvm) depth []) m ∙ ap (behind clvm [] (Names first)) n.1)
 meets_pair false b first second more rest depth begun text m n =
-    (m.0, list_step depth begun text ∙ form_in_list false first more depth begun (token_of text) m ∙ ap (with_rest list_from depth) m.1)
+    (m.0, list_step clvm depth [] begun text ∙ form_in_list false first more depth begun (token_of text) m ∙ ap (with_rest clvm (list_from clvm) depth []) m.1)
 
 -- behind an opening parenthesis
 opens : (fits : Bool) (tree : Tree) (depth room : ℕ) (text rest : List ℕ) → depth + room ≡ 1024 →
-    ((0 < room) → Meets fits tree rest (list_from (suc depth) false text)) → Meets (nat_lt 0 room && fits) tree rest (form_at list_from depth (token_of (0x28 ∷ text)))
+    ((0 < room) → Meets fits tree rest (list_from clvm (suc depth) [] false text)) → Meets (nat_lt 0 room && fits) tree rest (form_at clvm (list_from clvm) depth (token_of (0x28 ∷ text)))
 unfolding token_of
 opens fits tree depth zero text rest e m =
     let full : nat_lt depth 1024 ≡ false = grind (arith, nat_tests) in
-    (0x28 ∷ text, ap (λ t. cond t (list_from (suc depth) false text) (Breaks Deep None (0x28 ∷ text))) full)
+    (0x28 ∷ text, ap (λ t. cond t (list_from clvm (suc depth) (0x28 ∷ text) false text) (Breaks Deep None (0x28 ∷ text))) full)
 opens fits tree depth (suc room) text rest e m =
     let within : nat_lt depth 1024 ≡ true = grind (arith, nat_tests) in
     let some : nat_lt 0 (suc room) ≡ true = grind (arith, nat_tests) in
-    subst (λ t. Meets (t && fits) tree rest (form_at list_from depth (token_of (0x28 ∷ text)))) (sym some)
-    (meets_same fits tree rest (form_at list_from depth (token_of (0x28 ∷ text))) (list_from (suc depth) false text)
-    (ap (λ t. cond t (list_from (suc depth) false text) (Breaks Deep None (0x28 ∷ text))) within) (m (omega arith)))
+    subst (λ t. Meets (t && fits) tree rest (form_at clvm (list_from clvm) depth (token_of (0x28 ∷ text)))) (sym some)
+    (meets_same fits tree rest (form_at clvm (list_from clvm) depth (token_of (0x28 ∷ text))) (list_from clvm (suc depth) [] false text)
+    (ap (λ t. cond t (list_from clvm (suc depth) (0x28 ∷ text) false text) (Breaks Deep None (0x28 ∷ text))) within ∙ places_are_free (suc depth) (0x28 ∷ text) [] false text)
+    (m (omega arith)))
 
 closing_token : (rest : List ℕ) → token_of (0x29 ∷ rest) ≡ Took Closing (0x29 ∷ rest) rest
 unfolding token_of
@@ -170,24 +174,24 @@ unfolding token_of
 space_first rest = refl
 
 -- nil at the end of a list
-closes : (depth : ℕ) (begun : Bool) (rest : List ℕ) → list_from depth begun (0x29 ∷ rest) ≡ Parses (Names nil) rest
-closes depth begun rest = list_step depth begun (0x29 ∷ rest) ∙ ap (list_at list_from depth begun) (closing_token rest)
+closes : (depth : ℕ) (begun : Bool) (rest : List ℕ) → list_from clvm depth [] begun (0x29 ∷ rest) ≡ Parses (Names nil) rest
+closes depth begun rest = list_step clvm depth [] begun (0x29 ∷ rest) ∙ ap (list_at clvm (list_from clvm) depth [] begun) (closing_token rest)
 
 -- an atom behind a dot, at the end of a list
-ends_in : (atom text rest : List ℕ) (depth : ℕ) (w : IsWordOf atom text) → list_from depth true (0x20 ∷ 0x2e ∷ 0x20 ∷ (text ++ (0x29 ∷ rest))) ≡ Parses (Names (Atom atom)) rest
+ends_in : (atom text rest : List ℕ) (depth : ℕ) (w : IsWordOf atom text) → list_from clvm depth [] true (0x20 ∷ 0x2e ∷ 0x20 ∷ (text ++ (0x29 ∷ rest))) ≡ Parses (Names (Atom atom)) rest
 ends_in atom text rest depth w =
-    list_step depth true (0x20 ∷ 0x2e ∷ 0x20 ∷ (text ++ (0x29 ∷ rest)))
-    ∙ ap (list_at list_from depth true) (dot_token (text ++ (0x29 ∷ rest)))
+    list_step clvm depth [] true (0x20 ∷ 0x2e ∷ 0x20 ∷ (text ++ (0x29 ∷ rest)))
+    ∙ ap (list_at clvm (list_from clvm) depth [] true) (dot_token (text ++ (0x29 ∷ rest)))
     ∙ ap (last_form (0x2e ∷ 0x20 ∷ (text ++ (0x29 ∷ rest))))
-    (ap (form_at list_from depth) (space_first (text ++ (0x29 ∷ rest)) ∙ word_read atom text (0x29 ∷ rest) w refl) ∙ w.form list_from depth (text ++ (0x29 ∷ rest)) (0x29 ∷ rest))
+    (ap (form_at clvm (list_from clvm) depth) (space_first (text ++ (0x29 ∷ rest)) ∙ word_read atom text (0x29 ∷ rest) w refl) ∙ w.form (list_from clvm) depth (text ++ (0x29 ∷ rest)) (0x29 ∷ rest))
     ∙ ap (closed (0x2e ∷ 0x20 ∷ (text ++ (0x29 ∷ rest))) (Names (Atom atom))) (closing_token rest)
 
-word_form : (atom text rest : List ℕ) (depth : ℕ) (w : IsWordOf atom text) → EndsWords rest → form_at list_from depth (token_of (text ++ rest)) ≡ Parses (Names (Atom atom)) rest
-word_form atom text rest depth w e = ap (form_at list_from depth) (word_read atom text rest w e) ∙ w.form list_from depth (text ++ rest) rest
+word_form : (atom text rest : List ℕ) (depth : ℕ) (w : IsWordOf atom text) → EndsWords rest → form_at clvm (list_from clvm) depth (token_of (text ++ rest)) ≡ Parses (Names (Atom atom)) rest
+word_form atom text rest depth w e = ap (form_at clvm (list_from clvm) depth) (word_read atom text rest w e) ∙ w.form (list_from clvm) depth (text ++ rest) rest
 
-nil_form : (depth room : ℕ) (rest : List ℕ) → depth + room ≡ 1024 → Meets (nat_lt 0 room) nil rest (form_at list_from depth (token_of (0x28 ∷ 0x29 ∷ rest)))
+nil_form : (depth room : ℕ) (rest : List ℕ) → depth + room ≡ 1024 → Meets (nat_lt 0 room) nil rest (form_at clvm (list_from clvm) depth (token_of (0x28 ∷ 0x29 ∷ rest)))
 nil_form depth room rest e =
-    subst (λ t. Meets t nil rest (form_at list_from depth (token_of (0x28 ∷ 0x29 ∷ rest)))) (and_true (nat_lt 0 room))
+    subst (λ t. Meets t nil rest (form_at clvm (list_from clvm) depth (token_of (0x28 ∷ 0x29 ∷ rest)))) (and_true (nat_lt 0 room))
     (opens true nil depth room (0x29 ∷ rest) rest e (λ some. closes (suc depth) false rest))
   where
     and_true : (t : Bool) → (t && true) ≡ t
@@ -196,13 +200,13 @@ nil_form depth room rest e =
 
 -- a pair in parentheses, of its first and its rest as they are read
 pair_meets : (first second : Tree) (depth room : ℕ) (rest : List ℕ) → depth + room ≡ 1024 →
-    (suc depth + (room - 1) ≡ 1024 → Meets (fits (room - 1) AsHead first) first (text_at AsRest second ++ rest) (form_at list_from (suc depth) (token_of (text_at AsHead first ++ (text_at AsRest second ++ rest))))) →
-    (suc depth + (room - 1) ≡ 1024 → Meets (fits (room - 1) AsRest second) second rest (list_from (suc depth) true (text_at AsRest second ++ rest))) →
+    (suc depth + (room - 1) ≡ 1024 → Meets (fits (room - 1) AsHead first) first (text_at AsRest second ++ rest) (form_at clvm (list_from clvm) (suc depth) (token_of (text_at AsHead first ++ (text_at AsRest second ++ rest))))) →
+    (suc depth + (room - 1) ≡ 1024 → Meets (fits (room - 1) AsRest second) second rest (list_from clvm (suc depth) [] true (text_at AsRest second ++ rest))) →
     Meets (nat_lt 0 room && (fits (room - 1) AsHead first && fits (room - 1) AsRest second)) (Pair first second) rest
-    (form_at list_from depth (token_of (0x28 ∷ ((text_at AsHead first ++ text_at AsRest second) ++ rest))))
+    (form_at clvm (list_from clvm) depth (token_of (0x28 ∷ ((text_at AsHead first ++ text_at AsRest second) ++ rest))))
 pair_meets first second depth room rest e mf ms =
     let text = text_at AsHead first ++ (text_at AsRest second ++ rest) in
-    subst (λ t. Meets (nat_lt 0 room && (fits (room - 1) AsHead first && fits (room - 1) AsRest second)) (Pair first second) rest (form_at list_from depth (token_of (0x28 ∷ t)))) (sym (append_assoc (text_at AsHead first) (text_at AsRest second) rest))
+    subst (λ t. Meets (nat_lt 0 room && (fits (room - 1) AsHead first && fits (room - 1) AsRest second)) (Pair first second) rest (form_at clvm (list_from clvm) depth (token_of (0x28 ∷ t)))) (sym (append_assoc (text_at AsHead first) (text_at AsRest second) rest))
     (opens (fits (room - 1) AsHead first && fits (room - 1) AsRest second) (Pair first second) depth room text rest e (λ some.
     let next : suc depth + (room - 1) ≡ 1024 = omega (arith, e, some) in
     meets_pair (fits (room - 1) AsHead first) (fits (room - 1) AsRest second) first second (text_at AsRest second ++ rest) rest (suc depth) false text (mf next) (ms next)))
@@ -216,7 +220,7 @@ meets AsRest (Atom []) depth room rest e h d = closes depth true rest
 meets AsHead (Atom (b ∷ bytes)) depth room rest e h d = word_form (b ∷ bytes) (head_text (b ∷ bytes)) rest depth (head_word b bytes h) d
 meets Alone (Atom (b ∷ bytes)) depth room rest e h d = word_form (b ∷ bytes) (atom_text (b ∷ bytes)) rest depth (atom_word b bytes h) d
 meets AsRest (Atom (b ∷ bytes)) depth room rest e h d =
-    ap (λ text. list_from depth true (0x20 ∷ 0x2e ∷ 0x20 ∷ text)) (append_assoc (atom_text (b ∷ bytes)) (0x29 ∷ []) rest)
+    ap (λ text. list_from clvm depth [] true (0x20 ∷ 0x2e ∷ 0x20 ∷ text)) (append_assoc (atom_text (b ∷ bytes)) (0x29 ∷ []) rest)
     ∙ ends_in (b ∷ bytes) (atom_text (b ∷ bytes)) rest depth (atom_word b bytes h)
 meets AsHead (Pair first second) depth room rest e h d = pair_meets first second depth room rest e
     (λ next. meets AsHead first (suc depth) (room - 1) (text_at AsRest second ++ rest) next h.0 (ends_rest second rest))
@@ -226,9 +230,9 @@ meets Alone (Pair first second) depth room rest e h d = pair_meets first second 
     (λ next. meets AsRest second (suc depth) (room - 1) rest next h.1 d)
 meets AsRest (Pair first second) depth room rest e h d =
     let text = text_at Alone first ++ (text_at AsRest second ++ rest) in
-    subst (λ t. Meets (fits room Alone first && fits room AsRest second) (Pair first second) rest (list_from depth true (0x20 ∷ t))) (sym (append_assoc (text_at Alone first) (text_at AsRest second) rest))
+    subst (λ t. Meets (fits room Alone first && fits room AsRest second) (Pair first second) rest (list_from clvm depth [] true (0x20 ∷ t))) (sym (append_assoc (text_at Alone first) (text_at AsRest second) rest))
     (meets_pair (fits room Alone first) (fits room AsRest second) first second (text_at AsRest second ++ rest) rest depth true (0x20 ∷ text)
-    (meets_same (fits room Alone first) first (text_at AsRest second ++ rest) (form_at list_from depth (token_of (0x20 ∷ text))) (form_at list_from depth (token_of text)) (ap (form_at list_from depth) (space_first text))
+    (meets_same (fits room Alone first) first (text_at AsRest second ++ rest) (form_at clvm (list_from clvm) depth (token_of (0x20 ∷ text))) (form_at clvm (list_from clvm) depth (token_of text)) (ap (form_at clvm (list_from clvm) depth) (space_first text))
     (meets Alone first depth room (text_at AsRest second ++ rest) e h.0 (ends_rest second rest)))
     (meets AsRest second depth room rest e h.1 d))
 
@@ -303,8 +307,7 @@ printed_fits tree h = ap (nests_within 1024) (sym (append-nil (printed tree))) �
 printed_form : (tree : Tree) → HasBytes tree → Meets (nests_within 1024 (printed tree)) tree [] (form_of (printed tree))
 printed_form tree h =
     subst (λ t. Meets t tree [] (form_of (printed tree))) (sym (printed_fits tree h))
-    (meets_same (fits 1024 Alone tree) tree [] (form_of (printed tree)) (form_at list_from 0 (token_of (printed tree))) (form_is (length (printed tree)) (printed tree) (omega arith))
-    (subst (λ t. Meets (fits 1024 Alone tree) tree [] (form_at list_from 0 (token_of t))) (append-nil (printed tree)) (meets Alone tree 0 1024 [] (omega arith) h tt)))
+    (subst (λ t. Meets (fits 1024 Alone tree) tree [] (form_at clvm (list_from clvm) 0 (token_of t))) (append-nil (printed tree)) (meets Alone tree 0 1024 [] (omega arith) h tt))
 
 scanned_is : (text : List ℕ) → scanned text ≡ whole text (form_of text)
 unfolding scanned

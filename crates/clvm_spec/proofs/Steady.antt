@@ -10,7 +10,8 @@ use Rattle.clvm_spec.specs.Path.{PathValue, Reached, Astray, path_value, path_co
 use Rattle.clvm_spec.specs.Outcomes.{Why, NoOperator, WrongCount, NotAList, NoStep, Applied, Gives, Fails, TooWide, WithinFuel, Outcome, Done, Failed, Spent, Wide}
 use Rattle.clvm_spec.specs.OperatorTable.{quote_cost, apply_cost, applied, within}
 use Rattle.clvm_spec.specs.Evaluation.{if_done, charge, is_byte, at_path, Evaluator, goes_on, in_form, apply_values, values_of, deeper, operator_form, evaluated_by, evaluated_within}
-use Rattle.clvm_spec.specs.FuelLaws.{Spending, Suffices, fuel_less, IsAtLeast}
+use Rattle.clvm_spec.specs.Spending.{Spending, Suffices, fuel_less}
+use Rattle.clvm_spec.specs.FuelLaws.{IsAtLeast}
 
 -- an outcome with this fuel, and what it is with other fuel
 pub data Kept (run : Fuel → Outcome) (fuel : Fuel) : Outcome → Type 0 where

@@ -8,7 +8,8 @@ use Rattle.clvm_spec.specs.ProperList.{elements}
 use Rattle.clvm_spec.specs.Outcomes.{Why, Outcome, Done, Failed, Spent, Wide}
 use Rattle.clvm_spec.specs.OperatorTable.{apply_cost}
 use Rattle.clvm_spec.specs.Evaluation.{if_done, charge, is_byte, Evaluator, goes_on, apply_values, values_of, deeper, operator_form, evaluated_by, evaluated_within, evaluation}
-use Rattle.clvm_spec.specs.FuelLaws.{Spending, Suffices, fuel_less, IsAtLeast, DoneRunUsesTheSame, MoreFuelKeepsFailures, MoreFuelKeepsWide, StepsAreWithinTheCost, EvaluationIsItsStep}
+use Rattle.clvm_spec.specs.Spending.{Spending, Suffices, fuel_less}
+use Rattle.clvm_spec.specs.FuelLaws.{IsAtLeast, DoneRunUsesTheSame, MoreFuelKeepsFailures, MoreFuelKeepsWide, StepsAreWithinTheCost, EvaluationIsItsStep}
 use Rattle.clvm_spec.proofs.Steady.{Kept, done, failed, spent, wide, IsSteady, steady_within}
 
 -- ---- steps

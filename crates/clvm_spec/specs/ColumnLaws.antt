@@ -4,7 +4,7 @@ use Rattle.std.specs.Prelude.{◌≡◌, ℕ, zero, suc, ◌<◌, ◌≤◌, ◌
 use Rattle.std.specs.Option.{option_or}
 use Rattle.std.specs.List.{All}
 use Rattle.clvm_spec.specs.Numbers.{is_short}
-use Rattle.clvm_spec.specs.Tree.{Tree, Atom, Pair}
+use Rattle.clvm_spec.specs.Tree.{Tree, Atom, Pair, bytes_of}
 use Rattle.clvm_spec.specs.Outcomes.{WrongCount, WrongOperand, Applied, Gives, Fails, TooWide}
 use Rattle.clvm_spec.specs.OperatorTable.{Operands, Any, Pairs, Atoms, Numbers, AtomAndNumbers, Operator, operators}
 
@@ -63,8 +63,7 @@ abbrev pub NoOtherIsWrong : Type 0
 NoOtherIsWrong = All (λ row. (operands : List Tree) (place : ℕ) → first_fault row.kind 0 operands ≡ None → row.applied operands ≡ Fails (WrongOperand place) → (row.kind ≡ AtomAndNumbers) × (place ≡ 1)) rows_on_values
 
 abbrev pub atom_length : Tree → ℕ
-atom_length (Atom bytes) = length bytes
-atom_length (Pair first rest) = 0
+atom_length tree = length (bytes_of tree)
 
 -- Nor is one too wide, but of numbers, for atoms whose lengths together are below 2 ^ 64.
 abbrev pub OnlyNumbersAreTooWide : Type 0

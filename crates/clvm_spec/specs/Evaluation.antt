@@ -8,6 +8,7 @@ use Rattle.clvm_spec.specs.ProperList.{elements}
 use Rattle.clvm_spec.specs.Path.{PathValue, Reached, Astray, path_value, path_cost}
 use Rattle.clvm_spec.specs.Outcomes.{NoStep, NotAList, WrongCount, NoOperator, Gives, Fails, TooWide, WithinFuel, Enough, Lacks, Outcome, Done, Failed, Spent, Wide}
 use Rattle.clvm_spec.specs.OperatorTable.{quote_cost, apply_cost, operator_outcome}
+use Rattle.clvm_spec.specs.Spending.{fuel_less, paid}
 
 -- goes on from where a part is done
 abbrev pub if_done : Outcome → (Tree → Fuel → Outcome) → Outcome
@@ -18,7 +19,7 @@ if_done Wide go = Wide
 
 -- A cost equal to what is left is enough.
 abbrev pub charge : ℕ → Fuel → (Fuel → Outcome) → Outcome
-charge cost left go = if nat_lt left.cost cost then Spent Cost else go (record left { cost = left.cost - cost })
+charge cost left go = if nat_lt left.cost cost then Spent Cost else go (paid cost left)
 
 abbrev pub is_byte : ℕ → List ℕ → Bool
 is_byte code [] = false
@@ -48,7 +49,7 @@ goes_on evaluate form depth (program ∷ env ∷ c ∷ more) left = Failed Wrong
 
 -- A value takes its cost, pairs and bytes from what is left; a fault is the form's.
 abbrev pub in_form : Tree → Fuel → WithinFuel → Outcome
-in_form form left (Enough (Gives value cost pairs bytes)) = Done value (record left { cost = left.cost - cost; pairs = left.pairs - pairs; bytes = left.bytes - bytes })
+in_form form left (Enough (Gives value cost pairs bytes)) = Done value (fuel_less (record { cost = cost; pairs = pairs; bytes = bytes }) left)
 in_form form left (Enough (Fails why)) = Failed why form
 in_form form left (Enough TooWide) = Wide
 in_form form left (Lacks which) = Spent which
@@ -72,8 +73,8 @@ deeper (operand ∷ operands) depth left go = if nat_lt depth left.depth then go
 abbrev pub operator_form : Evaluator → List ℕ → Tree → Tree → ℕ → Option (List Tree) → Fuel → Outcome
 operator_form evaluate code form env depth None left = Failed NotAList form
 operator_form evaluate code form env depth (Some operands) left =
-    charge 1 left (λ paid. deeper operands depth paid (λ paid.
-    values_of (λ operand. evaluate operand env (suc depth)) operands paid (apply_values evaluate code form depth)))
+    charge 1 left (λ after. deeper operands depth after (λ after.
+    values_of (λ operand. evaluate operand env (suc depth)) operands after (apply_values evaluate code form depth)))
 
 -- A pair whose first is the one byte 1 has its rest as its value.
 abbrev pub atom_form : Evaluator → List ℕ → Tree → Tree → ℕ → Fuel → Outcome

@@ -1,24 +1,11 @@
 -- What fuel is to an evaluation: laws of the definition, each proved once for the crates above.
-use Rattle.std.specs.Prelude.{◌≡◌, ℕ, ◌-◌, ◌<◌, ◌≤◌, List}
+use Rattle.std.specs.Prelude.{◌≡◌, ℕ, ◌<◌, ◌≤◌, List}
 use Rattle.clvm_spec.specs.declared.fuel.Fuel.{Fuel}
 use Rattle.clvm_spec.specs.Tree.{Tree}
 use Rattle.clvm_spec.specs.Outcomes.{Why, Gives, Done, Failed, Wide}
 use Rattle.clvm_spec.specs.OperatorTable.{applied}
+use Rattle.clvm_spec.specs.Spending.{Spending, Suffices, fuel_less}
 use Rattle.clvm_spec.specs.Evaluation.{evaluation, evaluated_by, evaluated_within}
-
--- what a run uses of its fuel
-pub record Spending : Type 0 where
-  pub cost : ℕ
-  pub pairs : ℕ
-  pub bytes : ℕ
-
-pub record Suffices (fuel : Fuel) (spending : Spending) : Type 0 where
-  pub cost : spending.cost ≤ fuel.cost
-  pub pairs : spending.pairs ≤ fuel.pairs
-  pub bytes : spending.bytes ≤ fuel.bytes
-
-abbrev pub fuel_less : Spending → Fuel → Fuel
-fuel_less spending fuel = record fuel { cost = fuel.cost - spending.cost; pairs = fuel.pairs - spending.pairs; bytes = fuel.bytes - spending.bytes }
 
 -- as much or more of each count
 pub record IsAtLeast (more fuel : Fuel) : Type 0 where

@@ -14,8 +14,10 @@ pub mod Path
 pub mod Arithmetic
 pub mod Operators
 pub mod OperatorTable
+pub mod Spending
 pub mod Evaluation
 pub mod Tokens
+pub mod Grammar
 pub mod Text
 pub mod Lines
 pub mod FuelLaws

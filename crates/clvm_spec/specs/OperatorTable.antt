@@ -54,9 +54,11 @@ operators =
     ∷ operator 5 (codes "f") 1 (Some 1) Pairs 30 first_of
     ∷ operator 6 (codes "r") 1 (Some 1) Pairs 30 rest_of
     ∷ operator 7 (codes "l") 1 (Some 1) Any 19 pair_flag
+    -- `x` gives no value, so this 0 is never charged
     ∷ operator 8 (codes "x") 0 None Any 0 raised
     ∷ operator 9 (codes "=") 2 (Some 2) Atoms 117 equal_flag
     ∷ operator 10 (codes ">s") 2 (Some 2) Atoms 117 bytes_greater_flag
+    -- 87, and 10 for each byte of the hash
     ∷ operator 11 (codes "sha256") 0 None Atoms 407 hash_of
     ∷ operator 12 (codes "substr") 2 (Some 3) AtomAndNumbers 1 part_of
     ∷ operator 13 (codes "strlen") 1 (Some 1) Atoms 173 length_of

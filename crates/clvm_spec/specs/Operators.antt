@@ -15,7 +15,7 @@ use Rattle.std.specs.Int.{w128, int_bit_and, int_bit_or, int_bit_xor}
 use Rattle.sha2.specs.Sha256.{sha256}
 use Rattle.clvm_spec.specs.Tree.{Tree, Atom, Pair, nil, list_tree}
 use Rattle.clvm_spec.specs.Numbers.{unsigned, number, shortest_atom, is_short}
-use Rattle.clvm_spec.specs.Arithmetic.{fits_128, is_zero, quotient, remainder, is_shift, shifted}
+use Rattle.clvm_spec.specs.Arithmetic.{fits_128, if_fits, is_zero, quotient, remainder, is_shift, shifted}
 use Rattle.clvm_spec.specs.Outcomes.{WrongCount, WrongOperand, Raised, ZeroDivisor, WrongShift, Applied, Gives, Fails, TooWide}
 
 -- ---- how operands are read: first how many there are, then each of them
@@ -110,8 +110,13 @@ new_atom cost bytes = Gives (Atom bytes) cost 0 (length bytes + 8)
 abbrev pub written : ℕ → List ℕ → Applied
 written cost bytes = new_atom (cost + 10 * length bytes) bytes
 
+-- what is made of a number where there is one that 128 bits hold
+abbrev pub or_wide : {T : Type 0} → Option T → (T → Applied) → Applied
+or_wide None go = TooWide
+or_wide (Some held) go = go held
+
 abbrev pub new_number : ℕ → ℤ → Applied
-new_number cost n = if fits_128 n then written cost (shortest_atom n) else TooWide
+new_number cost n = or_wide (if_fits n) (λ n. written cost (shortest_atom n))
 
 -- a pair of two new atoms, at a cost of 10 more for each byte of both
 abbrev pub written_pair : ℕ → List ℕ → List ℕ → Applied
@@ -172,13 +177,17 @@ abbrev pub is_part : ℤ → ℤ → ℕ → Bool
 is_part start end length = int_le (pos 0) start && int_le start end && int_le end (pos length)
 
 -- the bytes from a start to an end, where the atom has them
-abbrev pub part : ℕ → List ℕ → (start end : ℤ) → Applied
-part cost a start end = if is_part start end (length a) then new_atom cost (slice_range a (nat_abs start) (nat_abs end)) else Fails (WrongOperand 1)
+abbrev pub part : List ℕ → (start end : ℤ) → Option (List ℕ)
+part a start end = if is_part start end (length a) then Some (slice_range a (nat_abs start) (nat_abs end)) else None
+
+abbrev pub part_or_fault : ℕ → Option (List ℕ) → Applied
+part_or_fault cost None = Fails (WrongOperand 1)
+part_or_fault cost (Some bytes) = new_atom cost bytes
 
 -- substr: that part; the end is the length by default
 abbrev pub part_of : ℕ → List Tree → Applied
 part_of cost operands = two_or_three operands (λ a start end. atom_at 0 a (λ a. number_at 1 start (λ start. number_or (pos (length a)) 2 end (λ end.
-    part cost a (number start) end))))
+    part_or_fault cost (part a (number start) end)))))
 
 -- strlen
 abbrev pub length_of : ℕ → List Tree → Applied
@@ -237,10 +246,9 @@ greater_flag cost operands = two_numbers operands (λ a b. free (flag (int_lt (n
 
 -- a shifted number, of a value of that length
 abbrev pub new_shifted : (cost size : ℕ) → ℤ → Applied
-new_shifted cost size n = new_number (cost + 3 * (size + length (shortest_atom n))) n
+new_shifted cost size n = or_wide (if_fits n) (λ n. written (cost + 3 * (size + length (shortest_atom n))) (shortest_atom n))
 
--- ash: the value times 2 ^ shift, rounded down. One that 128 bits don't hold is too wide, whatever its shortest atom is
--- said to be.
+-- ash: the value times 2 ^ shift, rounded down
 abbrev pub shift_of_number : ℕ → List Tree → Applied
 shift_of_number cost operands = two_numbers operands (λ a by. let n = shifted (number a) (number by) in
     if is_shift (number by) then new_shifted cost (length a) n else Fails WrongShift)
@@ -250,18 +258,34 @@ abbrev pub shift_of_bits : ℕ → List Tree → Applied
 shift_of_bits cost operands = two_numbers operands (λ a by. let n = shifted (pos (unsigned a)) (number by) in
     if is_shift (number by) then new_shifted cost (length a) n else Fails WrongShift)
 
--- logand, logior, logxor: bit by bit, -1, 0 and 0 for none
-abbrev pub bits_of : (ℤ → ℤ → ℤ) → ℤ → ℕ → List Tree → Applied
-bits_of step none cost operands = numbers operands (λ atoms. new_number (cost + 264 * length atoms + 3 * lengths atoms) (fold step none (map number atoms)))
+-- what is made of numbers bit by bit: of two, and of none
+pub record Bitwise : Type 0 where
+  pub step : ℤ → ℤ → ℤ
+  pub none : ℤ
 
+abbrev pub conjunction : Bitwise
+conjunction = record { step = int_bit_and w128; none = negsuc 0 }
+
+abbrev pub disjunction : Bitwise
+disjunction = record { step = int_bit_or w128; none = pos 0 }
+
+abbrev pub exclusion : Bitwise
+exclusion = record { step = int_bit_xor w128; none = pos 0 }
+
+abbrev pub bits_of : Bitwise → ℕ → List Tree → Applied
+bits_of bitwise cost operands = numbers operands (λ atoms. new_number (cost + 264 * length atoms + 3 * lengths atoms) (fold bitwise.step bitwise.none (map number atoms)))
+
+-- logand: -1 for none
 abbrev pub and_of : ℕ → List Tree → Applied
-and_of cost operands = bits_of (int_bit_and w128) (negsuc 0) cost operands
+and_of cost operands = bits_of conjunction cost operands
 
+-- logior: 0 for none
 abbrev pub or_of : ℕ → List Tree → Applied
-or_of cost operands = bits_of (int_bit_or w128) (pos 0) cost operands
+or_of cost operands = bits_of disjunction cost operands
 
+-- logxor: 0 for none
 abbrev pub xor_of : ℕ → List Tree → Applied
-xor_of cost operands = bits_of (int_bit_xor w128) (pos 0) cost operands
+xor_of cost operands = bits_of exclusion cost operands
 
 -- lognot: -1 less the number
 abbrev pub complement_of : ℕ → List Tree → Applied

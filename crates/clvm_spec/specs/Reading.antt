@@ -28,6 +28,8 @@ leaf [] rest = Begins (Leaf []) rest
 leaf (b ∷ []) rest = if nat_lt b 0x80 then Flawed LongSpelling else Begins (Leaf (b ∷ [])) rest
 leaf (b ∷ c ∷ atom) rest = Begins (Leaf (b ∷ c ∷ atom)) rest
 
+-- Where the bytes end within a prefix, or within an atom, the tree is cut.
+
 -- an atom of this many bytes, behind its prefix
 abbrev pub atom_behind : ℕ → List ℕ → Beginning
 atom_behind size bytes = if nat_lt (length bytes) size then Flawed Cut else leaf (take size bytes) (drop size bytes)

@@ -5,20 +5,18 @@ use Rattle.clvm_spec.specs.declared.scan_kind.ScanKind.TheVariants.{Deep}
 use Rattle.clvm_spec.specs.Tree.{Tree, Atom, Pair}
 use Rattle.clvm_spec.specs.Laws.{AreBytes}
 use Rattle.clvm_spec.specs.Tokens.{token_of}
-use Rattle.clvm_spec.specs.Text.{printed, InList, form_at, list_at, list_within, form_of, Scans, Unreadable, scanned}
-
--- what stands in a list, with nothing to bound it
-abbrev pub list_from : InList
-list_from depth begun text = list_within (suc (length text)) depth begun text
+use Rattle.clvm_spec.specs.Grammar.{most_open, form_at, list_at, list_within, list_from}
+use Rattle.clvm_spec.specs.Text.{printed, clvm, form_of, Scans, Unreadable, scanned}
 
 -- Each token takes a byte, so the definition's bound is no part of its meaning: any number of the text's length
 -- or above gives the same.
 abbrev pub FormsAreWithinTheText : Type 0
-FormsAreWithinTheText = (bound : ℕ) (text : List ℕ) → length text ≤ bound → form_at (list_within bound) 0 (token_of text) ≡ form_of text
+FormsAreWithinTheText = (bound : ℕ) (text : List ℕ) → length text ≤ bound → form_at clvm (list_within clvm bound) 0 (token_of text) ≡ form_of text
 
 -- So what stands in a list is what its first token begins, with the same for what is behind it.
 abbrev pub ListIsItsStep : Type 0
-ListIsItsStep = (depth : ℕ) (begun : Bool) (text : List ℕ) → list_from depth begun text ≡ list_at list_from depth begun (token_of text)
+ListIsItsStep =
+    (depth : ℕ) (place : List ℕ) (begun : Bool) (text : List ℕ) → list_from clvm depth place begun text ≡ list_at clvm (list_from clvm) depth place begun (token_of text)
 
 -- how many parentheses may still be opened
 abbrev pub may_open : ℕ → ℕ → Bool
@@ -38,8 +36,8 @@ HasBytes (Pair first rest) = HasBytes first × HasBytes rest
 
 -- What is printed of a tree is scanned as that tree, where it nests at most 1,024 parentheses.
 abbrev pub PrintedIsScanned : Type 0
-PrintedIsScanned = (tree : Tree) → HasBytes tree → nests_within 1024 (printed tree) ≡ true → scanned (printed tree) ≡ Scans tree
+PrintedIsScanned = (tree : Tree) → HasBytes tree → nests_within most_open (printed tree) ≡ true → scanned (printed tree) ≡ Scans tree
 
 -- Where it nests more, it is too deep.
 abbrev pub PrintedTooDeep : Type 0
-PrintedTooDeep = (tree : Tree) → HasBytes tree → nests_within 1024 (printed tree) ≡ false → (place : ℕ) × (scanned (printed tree) ≡ Unreadable Deep place)
+PrintedTooDeep = (tree : Tree) → HasBytes tree → nests_within most_open (printed tree) ≡ false → (place : ℕ) × (scanned (printed tree) ≡ Unreadable Deep place)

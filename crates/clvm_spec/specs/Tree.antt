@@ -9,6 +9,11 @@ pub data Tree : Type 0 where
 abbrev pub nil : Tree
 nil = Atom []
 
+-- the bytes of an atom; a pair has none
+abbrev pub bytes_of : Tree → List ℕ
+bytes_of (Atom bytes) = bytes
+bytes_of (Pair first rest) = []
+
 -- the proper list of trees: pairs whose rests end in nil
 abbrev pub list_tree : List Tree → Tree
 list_tree [] = nil

@@ -8,6 +8,7 @@ pub mod codec_laws;
 pub mod column_laws;
 pub mod fuel;
 pub mod fuel_laws;
+mod nesting;
 mod numbers;
 pub mod scan_kind;
 #[cfg(test)]
@@ -15,5 +16,6 @@ mod tests;
 pub mod text_laws;
 
 pub use fuel::{Fuel, Which};
+pub use nesting::nests_within;
 pub use numbers::{number_length, shortest_bytes};
 pub use scan_kind::ScanKind;

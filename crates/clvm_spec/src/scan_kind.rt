@@ -1,5 +1,8 @@
 //! What is wrong with a text.
 
+ghost use Rattle.std.specs.Prelude.{◌≡◌};
+ghost use Rattle.clvm_spec.specs.Grammar.{is_dots_fault};
+
 /// The first fault of a text, from the front.
 #[derive(Clone, Copy, Debug, PartialEq, Eq)]
 pub enum ScanKind {
@@ -19,4 +22,13 @@ pub enum ScanKind {
     Byte,
     /// More than 1,024 lists in one another.
     Deep,
+}
+
+impl ScanKind {
+    /// Whether a list tells this as a fault of its dot, where it stands behind that.
+    pub fn is_dots_fault(self) -> bool
+        ensures { result ≡ is_dots_fault self }
+    {
+        !matches!(self, ScanKind::Deep)
+    }
 }

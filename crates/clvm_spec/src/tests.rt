@@ -1,5 +1,5 @@
 use super::arithmetic::{is_shift_amount, leading_zero_bytes, quotient_of};
-use super::{number_length, shortest_bytes};
+use super::{ScanKind, nests_within, number_length, shortest_bytes};
 
 #[test]
 fn calculates_as_the_table_says(rt: HostRuntime) {
@@ -67,5 +67,44 @@ fn counts_the_bytes_of_shortest_atoms(rt: HostRuntime) {
         (i128::MIN, 16),
     ] {
         assert_eq!(rt; number_length(number), length, "of {number}");
+    }
+}
+
+#[test]
+fn tells_a_dots_faults(rt: HostRuntime) {
+    for kind in [
+        ScanKind::End,
+        ScanKind::Close,
+        ScanKind::Dot,
+        ScanKind::Hex,
+        ScanKind::Number,
+        ScanKind::Text,
+        ScanKind::Byte,
+    ] {
+        assert!(rt; kind.is_dots_fault());
+    }
+    assert!(rt; !ScanKind::Deep.is_dots_fault());
+}
+
+#[test]
+fn tells_how_deep_a_text_nests(rt: HostRuntime) {
+    for (text, room, within) in [
+        (b"".as_slice(), 0, true),
+        (b"word".as_slice(), 0, true),
+        (b"()".as_slice(), 0, false),
+        (b"()".as_slice(), 1, true),
+        (b"(())".as_slice(), 1, false),
+        (b"(())".as_slice(), 2, true),
+        (b"() () ()".as_slice(), 1, true),
+        (b"(a (q . 2) 1)".as_slice(), 1, false),
+        (b"(a (q . 2) 1)".as_slice(), 2, true),
+        // What closes more than it opens leaves room for more.
+        (b")(".as_slice(), 0, true),
+        (b")((".as_slice(), 0, false),
+        (b"())((".as_slice(), 1, true),
+        (b"())(((".as_slice(), 1, false),
+        (b")()(".as_slice(), usize::MAX, true),
+    ] {
+        assert_eq!(rt; nests_within(text, room), within, "at {room}");
     }
 }

@@ -1,5 +1,6 @@
-use Rattle.clvm_spec.proofs.ScanLaws.{forms_law}
+use Rattle.clvm_spec.specs.Text.{clvm}
+use Rattle.clvm_spec.proofs.GrammarLaws.{form_within}
 use Rattle.clvm_spec.proofs.text_laws.steps_are_within_the_text.Goals as goal
 
 pub returns : goal.returns
-returns c = forms_law
+returns c = λ bound text. form_within clvm bound 0 text
