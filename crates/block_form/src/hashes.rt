@@ -1,14 +1,14 @@
 ghost use Rattle.std.specs.Prelude.{◌≡◌, ◌^◌, ◌≤◌, pos, map, length, IsSome, IfOk};
 ghost use Rattle.clvm_spec.specs.Tree.{Atom};
 ghost use Rattle.clvm_spec.specs.Numbers.{shortest_atom};
-ghost use Rattle.clvm_spec.specs.Hashing.{tree_hash, list_hash};
+ghost use Rattle.clvm_spec.specs.Hashing.{tree_hash};
 ghost use Rattle.clvm_spec.specs.Reading.{tree_of};
 ghost use Rattle.clvm_spec.specs.Spelled.{spelled_tree};
 ghost use Rattle.block_form.specs.BundleTree.{spend_tree, spends_tree, signed_tree, attested_tree, bundle_id};
 
 use crate::{Bundle, Signed, Spend};
 use clvm_spec::shortest_bytes;
-use clvm_tree::{Hash, ReadFault, Trees, atom_hash, pair_hash};
+use clvm_tree::{Hash, ReadFault, Trees, atom_hash, list_hash, pair_hash};
 use coin_facts::{Hash32, OutOfMemory};
 use std::alloc::Global;
 
@@ -82,15 +82,4 @@ fn signed_hash(signed: &Signed) -> Hash
     let key = atom_hash(signed.key.as_slice());
     let message = atom_hash(signed.message.as_slice());
     pair_hash(&key, &message)
-}
-
-// The hash of the proper list whose elements have these hashes.
-fn list_hash(hashes: &[Hash]) -> Hash
-    ensures { result ≡ list_hash hashes.now }
-{
-    let mut behind = atom_hash(&[]);
-    for place in (0..hashes.len()).rev() {
-        behind = pair_hash(&hashes[place], &behind);
-    }
-    behind
 }

@@ -1,7 +1,7 @@
 -- Parts are earlier than their pairs.
 use Rattle.std.proofs.Common.{◌≡◌, ℕ, ◌+◌, List, get_or, subst, arith}
-use Rattle.clvm_tree.specs.Arena.{IsSoundAt, AreSound}
-use Rattle.clvm_tree.specs.Uses.{HasEarlierParts, AllEarlier}
+use Rattle.clvm_tree.specs.Arena.{HasEarlierParts, IsSoundAt, AreSound}
+use Rattle.clvm_tree.specs.Uses.{AllEarlier}
 use Rattle.clvm_tree.specs.declared.arena.Entry.{Entry}
 use Rattle.clvm_tree.specs.declared.arena.Entry.TheVariants.{Bytes, Two}
 use Rattle.clvm_tree.proofs.ArenaLaws.{sound_at}

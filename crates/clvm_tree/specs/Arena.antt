@@ -18,10 +18,15 @@ built bytes trees (entry ∷ entries) = built bytes (trees ++ entry_tree bytes t
 abbrev pub trees_of : List ℕ → List Entry → List Tree
 trees_of bytes entries = built bytes (nil ∷ Atom (1 ∷ []) ∷ []) entries
 
--- An entry at this place speaks of earlier nodes and of bytes that are there.
+-- An entry at this place has earlier parts.
+abbrev pub HasEarlierParts : ℕ → Entry → Type 0
+HasEarlierParts place (Bytes start end) = Unit {0}
+HasEarlierParts place (Two first rest) = (first.0 < place) × (rest.0 < place)
+
+-- It speaks of earlier nodes and of bytes that are there.
 abbrev pub IsSoundAt : ℕ → ℕ → Entry → Type 0
 IsSoundAt place size (Bytes start end) = (start ≤ end) × (end ≤ size)
-IsSoundAt place size (Two first rest) = (first.0 < place) × (rest.0 < place)
+IsSoundAt place size (Two first rest) = HasEarlierParts place (Two first rest)
 
 -- the same of entries from this place on
 abbrev pub AreSound : ℕ → ℕ → List Entry → Type 0

@@ -1,11 +1,12 @@
 -- What a table of operators answers on nodes: by the definition of the operators, on the trees that the nodes stand for.
 -- This project's own.
-use Rattle.std.specs.Prelude.{◌≡◌, ℕ, ◌≤◌, List, map}
+use Rattle.std.specs.Prelude.{◌≡◌, ℕ, ◌+◌, ◌≤◌, List, length, map}
 use Rattle.clvm_spec.specs.declared.fuel.Fuel.{Fuel}
 use Rattle.clvm_spec.specs.Tree.{Tree, Atom, Pair}
 use Rattle.clvm_spec.specs.Outcomes.{WrongCount, WrongOperand, ZeroDivisor, WrongShift, NoOperator, Gives, Fails, TooWide, WithinFuel, Enough, Lacks}
 use Rattle.clvm_spec.specs.Outcomes as outcomes
 use Rattle.clvm_spec.specs.OperatorTable.{operator_outcome}
+use Rattle.clvm_spec.specs.Spending.{Spending, Suffices}
 use Rattle.clvm_tree.specs.Nodes.{tree_at, IsKnown}
 use Rattle.clvm_tree.specs.declared.Node.{Node}
 use Rattle.clvm_tree.specs.declared.operators.Answer.{Answer}
@@ -25,12 +26,13 @@ pub record IsAnswer (trees : List Tree) (outcome : WithinFuel) (answer : Answer)
   pub known : IsKnown trees answer.value.0
   pub gives : outcome ≡ Enough (Gives (tree_at trees answer.value.0) answer.cost answer.pairs answer.bytes)
 
+abbrev pub spending_of : Answer → Spending
+spending_of answer = record { cost = answer.cost; pairs = answer.pairs; bytes = answer.bytes }
+
 -- It costs something, and what is left of the fuel suffices for it.
 pub record IsWithin (left : Fuel) (answer : Answer) : Type 0 where
   pub some : 1 ≤ answer.cost
-  pub cost : answer.cost ≤ left.cost
-  pub pairs : answer.pairs ≤ left.pairs
-  pub bytes : answer.bytes ≤ left.bytes
+  pub enough : Suffices left (spending_of answer)
 
 -- The node is what the program raises.
 pub record IsRaised (trees : List Tree) (outcome : WithinFuel) (node : ℕ) : Type 0 where
@@ -48,6 +50,18 @@ IsOpFault trees outcome fault.NoOperator = outcome ≡ Enough (Fails NoOperator)
 IsOpFault trees outcome fault.Wide = outcome ≡ Enough TooWide
 IsOpFault trees outcome (fault.Spent which) = outcome ≡ Lacks which
 IsOpFault trees outcome fault.OutOfMemory = Unit {0}
+
+-- After a fault no node is new, but the pairs of a list that is raised, and what was made before memory was wanting.
+abbrev pub KeepsNodes : (old new : List Tree) (operands : ℕ) → OpFault → Type 0
+KeepsNodes old new operands (fault.Operand place) = new ≡ old
+KeepsNodes old new operands fault.Count = new ≡ old
+KeepsNodes old new operands (fault.Raised node) = length new ≤ length old + operands
+KeepsNodes old new operands fault.ZeroDivisor = new ≡ old
+KeepsNodes old new operands fault.Shift = new ≡ old
+KeepsNodes old new operands fault.NoOperator = new ≡ old
+KeepsNodes old new operands fault.Wide = new ≡ old
+KeepsNodes old new operands (fault.Spent which) = new ≡ old
+KeepsNodes old new operands fault.OutOfMemory = Unit {0}
 
 -- A law of the definition: what is given costs something and is within what is left.
 abbrev pub AnswersAreWithin : Type 0

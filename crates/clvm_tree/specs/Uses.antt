@@ -4,6 +4,7 @@ use Rattle.std.specs.Prelude.{◌≡◌, ◌≢◌, ℕ, ◌+◌, ◌-◌, ◌<�
 use Rattle.clvm_spec.specs.Tree.{Tree, Pair}
 use Rattle.clvm_spec.specs.Hashing.{tree_hash}
 use Rattle.clvm_tree.specs.Nodes.{tree_at}
+use Rattle.clvm_tree.specs.Arena.{HasEarlierParts}
 use Rattle.clvm_tree.specs.Kept.{kept_at}
 use Rattle.clvm_tree.specs.declared.arena.Entry.{Entry}
 use Rattle.clvm_tree.specs.declared.arena.Entry.TheVariants.{Bytes, Two}
@@ -16,11 +17,6 @@ use_of uses node = slice_index_or uses node 0
 abbrev pub HasUsedParts : List ℕ → ℕ → Entry → Type 0
 HasUsedParts uses place (Bytes start end) = Unit {0}
 HasUsedParts uses place (Two first rest) = (place ≤ use_of uses first.0) × (place ≤ use_of uses rest.0)
-
--- An entry at this place has earlier parts.
-abbrev pub HasEarlierParts : ℕ → Entry → Type 0
-HasEarlierParts place (Bytes start end) = Unit {0}
-HasEarlierParts place (Two first rest) = (first.0 < place) × (rest.0 < place)
 
 abbrev pub AllEarlier : List Entry → Type 0
 AllEarlier entries = (k : ℕ) (d : Entry) → k < length entries → HasEarlierParts (k + 2) (slice_index_or entries k d)

@@ -1,9 +1,9 @@
 ghost use Rattle.std.specs.Prelude.{◌≡◌, ℕ, ◌+◌, ◌<◌, ◌≤◌, ◌^◌, List, ◌-◌, length, slice_index_or, IfOk, OnOk};
 ghost use Rattle.clvm_spec.specs.Tree.{Tree, Atom};
-ghost use Rattle.clvm_spec.specs.Hashing.{atom_hash, pair_hash, tree_hash};
+ghost use Rattle.clvm_spec.specs.Hashing.{atom_hash, list_hash, pair_hash, tree_hash};
 ghost use Rattle.clvm_tree.specs.Nodes.{tree_at, IsKnown};
-ghost use Rattle.clvm_tree.specs.Arena.{trees_of, IsArena};
-ghost use Rattle.clvm_tree.specs.Uses.{use_of, HasUsedParts, HasEarlierParts, AllEarlier, IsClosedFrom, UsesNode, UsesParts, IsReady};
+ghost use Rattle.clvm_tree.specs.Arena.{trees_of, HasEarlierParts, IsArena};
+ghost use Rattle.clvm_tree.specs.Uses.{use_of, HasUsedParts, AllEarlier, IsClosedFrom, UsesNode, UsesParts, IsReady};
 
 use crate::arena::{Entry, Trees};
 use crate::byte_hashes::ByteHashes;
@@ -34,6 +34,17 @@ pub fn pair_hash(first: &Hash, rest: &Hash) -> Hash
     hasher.update(first.as_slice());
     hasher.update(rest.as_slice());
     hasher.finalize()
+}
+
+/// The tree hash of a proper list whose elements have these hashes.
+pub fn list_hash(hashes: &[Hash]) -> Hash
+    ensures { result ≡ list_hash hashes.now }
+{
+    let mut behind = atom_hash(&[]);
+    for place in (0..hashes.len()).rev() {
+        behind = pair_hash(&hashes[place], &behind);
+    }
+    behind
 }
 
 // Notes that a node is used at this place.

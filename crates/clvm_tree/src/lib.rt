@@ -18,7 +18,7 @@ mod writer;
 
 pub use arena::{Sight, Trees};
 pub use clvm_spec::{Fuel, Which};
-pub use hasher::{Hash, atom_hash, pair_hash};
+pub use hasher::{Hash, atom_hash, list_hash, pair_hash};
 pub use numbers::{number, unsigned};
 pub use operators::{Answer, OpFault, Operators};
 pub use spelled::is_spelled;

@@ -1,6 +1,6 @@
 ghost use Rattle.std.specs.Prelude.{◌≡◌, ◌+◌, ◌<◌, ◌≤◌, ◌^◌, length, IfOk, IfErr, OnErr};
 ghost use Rattle.clvm_tree.specs.Nodes.{tree_at, IsKnown, AreKnown, Grows};
-ghost use Rattle.clvm_tree.specs.Operators.{trees_at, outcome_by, IsAnswer, IsWithin, IsOpFault, AnswersAreWithin};
+ghost use Rattle.clvm_tree.specs.Operators.{trees_at, outcome_by, IsAnswer, IsWithin, IsOpFault, KeepsNodes, AnswersAreWithin};
 ghost use Rattle.clvm_tree.specs.declared.operators.OpFault.TheVariants as op_fault;
 
 use crate::{Node, OutOfMemory, Trees};
@@ -58,7 +58,8 @@ impl From<OutOfMemory> for OpFault {
 pub trait Operators {
     /// Applies the operator of this code to the operands, within what is left of the fuel. Earlier nodes stand,
     /// whatever the answer. An answer's new nodes are among the pairs and bytes that it is charged. After a fault
-    /// there may be further nodes, as many as what is left allows, and one for each operand.
+    /// no node is new, but the pairs of a list that is raised, one for each operand, and what was made before memory was
+    /// wanting, as much as what is left allows.
     fn apply(
         &self,
         alloc: Global,
@@ -77,6 +78,7 @@ pub trait Operators {
             (outcome_by (tree_at trees.old code.0) (trees_at trees.old operands.now) left)) }
         ensures few_after_fault { OnErr result
             (length trees.new ≤ length trees.old + length operands.now + left.pairs + left.bytes) }
+        ensures nodes { IfErr result (KeepsNodes trees.old trees.new (length operands.now)) }
         ensures fault { IfErr result (IsOpFault trees.new
             (outcome_by (tree_at trees.old code.0) (trees_at trees.old operands.now) left)) };
 }

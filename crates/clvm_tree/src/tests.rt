@@ -3,7 +3,7 @@ ghost use Rattle.clvm_tree.specs.Nodes.{IsKnown};
 
 use crate::{
     Hash, Node, OutOfMemory, ReadFault, Sight, Trees, WriteFault, is_spelled as is_one_tree,
-    pair_hash, unsigned,
+    list_hash, pair_hash, unsigned,
 };
 use std::alloc::Global;
 
@@ -143,6 +143,10 @@ fn hashes_atoms(rt: HostRuntime) -> Result<(), OutOfMemory> {
     assert!(rt; atom_hash(rt.alloc(), b"")? == NIL_HASH);
     assert!(rt; atom_hash(rt.alloc(), b"\x01")? == ONE_HASH);
     assert!(rt; pair_hash(&NIL_HASH, &NIL_HASH) == PAIR_OF_NILS_HASH);
+    assert!(rt; list_hash(&[]) == NIL_HASH);
+    assert!(rt; list_hash([NIL_HASH].as_slice()) == PAIR_OF_NILS_HASH);
+    let behind = pair_hash(&ONE_HASH, &NIL_HASH);
+    assert!(rt; list_hash([NIL_HASH, ONE_HASH].as_slice()) == pair_hash(&NIL_HASH, &behind));
     Ok(())
 }
 
