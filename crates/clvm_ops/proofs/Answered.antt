@@ -1,15 +1,16 @@
 -- How the parts of a body's answer come together.
-use Rattle.std.proofs.Common.{◌≡◌, ℕ, ◌+◌, ◌*◌, ◌≤◌, ℤ, Bool, true, false, cond, Some, None, Result, Ok, Err, List, length, FitsSigned, sym, ap, ◌∙◌, refl, arith}
+use Rattle.std.proofs.Common.{◌≡◌, ℕ, ◌+◌, ◌≤◌, ℤ, Bool, true, false, cond, Some, None, Result, Ok, Err, List, length, FitsSigned, sym, ap, ◌∙◌, refl, arith}
 use Rattle.std.specs.Int.{w128}
 use Rattle.std.specs.Result.{IsErrAnd, IfOk, IfErr}
 use Rattle.std.proofs.lemmas.Result.{err_from_is_err_and}
 use Rattle.std.proofs.lemmas.Bool.{cond-true, cond-false, le-ltb}
 use Rattle.clvm_spec.specs.declared.fuel.Fuel.{Fuel}
+use Rattle.clvm_spec.specs.Spending.{Suffices}
 use Rattle.clvm_spec.specs.Tree.{Tree, Atom}
-use Rattle.clvm_spec.specs.Outcomes.{Applied, Gives, TooWide, WithinFuel, Enough, Lacks}
+use Rattle.clvm_spec.specs.Outcomes.{Applied, Gives, WithinFuel, Enough, Lacks}
 use Rattle.clvm_spec.specs.Numbers.{shortest_atom}
 use Rattle.clvm_spec.specs.Arithmetic.{fits_128, if_fits}
-use Rattle.clvm_spec.specs.Operators.{new_number, written}
+use Rattle.clvm_spec.specs.Operators.{or_wide, new_number, written}
 use Rattle.clvm_spec.specs.OperatorTable.{applied, within, within_cost}
 use Rattle.clvm_tree.specs.Nodes.{tree_at, IsKnown, Grows}
 use Rattle.clvm_tree.specs.Operators.{IsWithin, IsOpFault}
@@ -19,8 +20,9 @@ use Rattle.clvm_tree.specs.declared.operators.OpFault.{OpFault}
 use Rattle.clvm_tree.specs.declared.operators.OpFault.TheVariants as fault
 use Rattle.clvm_tree.proofs.OperatorLaws.{answers_law}
 use Rattle.clvm_tree.proofs.NodeLaws.{grows_same}
-use Rattle.clvm_ops.proofs.Fits.{fits}
-use Rattle.clvm_ops.specs.Answering.{Answers, IsGiven, IsCharged, number_or_wide, shifted_or_wide}
+use Rattle.clvm_ops.proofs.Fits.{held}
+use Rattle.clvm_tree.specs.Operators.{KeepsNodes}
+use Rattle.clvm_ops.specs.Answering.{Answers, IsGiven, IsCharged}
 use Rattle.clvm_ops.specs.declared.give.Charge.{Charge}
 
 -- what is said of an error that `?` hands on
@@ -44,8 +46,19 @@ still_faulty trees left applied fault.Wide e = ap (again left) e
 still_faulty trees left applied (fault.Spent which) e = ap (again left) e
 still_faulty trees left applied fault.OutOfMemory e = e
 
+keeps_same : (trees : List Tree) (operands : ℕ) (f : OpFault) → KeepsNodes trees trees operands f
+keeps_same trees operands (fault.Operand place) = refl
+keeps_same trees operands fault.Count = refl
+keeps_same trees operands (fault.Raised node) = omega arith
+keeps_same trees operands fault.ZeroDivisor = refl
+keeps_same trees operands fault.Shift = refl
+keeps_same trees operands fault.NoOperator = refl
+keeps_same trees operands fault.Wide = refl
+keeps_same trees operands (fault.Spent which) = refl
+keeps_same trees operands fault.OutOfMemory = tt
+
 refused : (trees : List Tree) (operands : ℕ) (left : Fuel) (applied : Applied) (f : OpFault) → IsOpFault trees (within left applied) f → Answers trees trees operands left applied (Err f)
-refused trees operands left applied f is = record { grows = grows_same trees; few = omega arith; is = is }
+refused trees operands left applied f is = record { grows = grows_same trees; few = omega arith; keeps = keeps_same trees operands f; is = is }
 
 pub refused_at_once : (trees : List Tree) (operands : ℕ) (left : Fuel) (applied : Applied) (f : OpFault) → IsOpFault trees (Enough applied) f → Answers trees trees operands left applied (Err f)
 refused_at_once trees operands left applied f is = refused trees operands left applied f (still_faulty trees left applied f is)
@@ -67,16 +80,16 @@ pub answers_same : (old new : List Tree) (operands : ℕ) (left : Fuel) (applied
 answers_same old new operands left applied other result e answers = rw e answers
 
 -- what is left suffices
-enough : (left : Fuel) (value : Tree) (cost pairs bytes : ℕ) → cost ≤ left.cost → pairs ≤ left.pairs → bytes ≤ left.bytes → within_cost left value cost pairs bytes ≡ Enough (Gives value cost pairs bytes)
-enough left value cost pairs bytes c p b =
-    cond-false _ _ _ (le-ltb left.cost cost c) ∙ cond-false _ _ _ (le-ltb left.pairs pairs p) ∙ cond-false _ _ _ (le-ltb left.bytes bytes b)
+enough : (left : Fuel) (value : Tree) (cost pairs bytes : ℕ) → Suffices left (record { cost = cost; pairs = pairs; bytes = bytes }) → within_cost left value cost pairs bytes ≡ Enough (Gives value cost pairs bytes)
+enough left value cost pairs bytes s =
+    cond-false _ _ _ (le-ltb left.cost cost s.cost) ∙ cond-false _ _ _ (le-ltb left.pairs pairs s.pairs) ∙ cond-false _ _ _ (le-ltb left.bytes bytes s.bytes)
 
 -- a new value that was charged
 pub given_new : (old new : List Tree) (left : Fuel) (applied : Applied) (value : Tree) (cost pairs bytes : ℕ) (charge : Charge) (node : Node) (answer : Answer) → applied ≡ Gives value cost pairs bytes
     → IsCharged left cost pairs bytes charge → Grows old new → length new ≤ length old + pairs + bytes → IsKnown new node.0 → tree_at new node.0 ≡ value
     → answer ≡ record { value = node; cost = charge.cost; pairs = charge.pairs; bytes = charge.bytes } → IsGiven old new left applied answer
 given_new old new left applied value cost pairs bytes charge node answer e charged grows few known stands is =
-    let whole = ap (within left) e ∙ enough left value cost pairs bytes charged.cost_within charged.pairs_within charged.bytes_within in
+    let whole = ap (within left) e ∙ enough left value cost pairs bytes charged.enough in
     let same : Gives value cost pairs bytes ≡ Gives (tree_at new node.0) charge.cost charge.pairs charge.bytes =
     ap (λ v. Gives v cost pairs bytes) (sym stands) ∙ ap (λ n. Gives (tree_at new node.0) n pairs bytes) (sym charged.cost_is)
     ∙ ap (λ n. Gives (tree_at new node.0) charge.cost n bytes) (sym charged.pairs_is) ∙ ap (λ n. Gives (tree_at new node.0) charge.cost charge.pairs n) (sym charged.bytes_is) in
@@ -89,21 +102,15 @@ given_new old new left applied value cost pairs bytes charge node answer e charg
 -- ---- numbers
 
 pub new_number_held : (cost : ℕ) (n : ℤ) → FitsSigned w128 n → new_number cost n ≡ written cost (shortest_atom n)
-new_number_held cost n h = cond-true _ _ TooWide (fits n h)
+new_number_held cost n h = ap (λ held. or_wide held (λ n. written cost (shortest_atom n))) (held n h)
 
-written_or_wide : (fits : Bool) (cost : ℕ) (n : ℤ) → fits ≡ fits_128 n → number_or_wide cost (cond fits (Some n) None) ≡ new_number cost n
-written_or_wide true cost n e = refl
-written_or_wide false cost n e = sym (cond-false _ _ TooWide (sym e))
+-- It's asked once whether 128 bits hold a number.
+asked_again : (fits : Bool) (n : ℤ) (go : ℤ → Applied) → fits ≡ fits_128 n → or_wide (cond fits (Some n) None) (λ m. or_wide (if_fits m) go) ≡ or_wide (cond fits (Some n) None) go
+asked_again true n go e = ap (λ held. or_wide held go) (cond-true _ _ _ (sym e))
+asked_again false n go e = refl
 
-pub number_or_wide-if_fits : (cost : ℕ) (n : ℤ) → number_or_wide cost (if_fits n) ≡ new_number cost n
-number_or_wide-if_fits cost n = written_or_wide (fits_128 n) cost n refl
-
-shifted_either : (fits : Bool) (cost size : ℕ) (n : ℤ) → fits ≡ fits_128 n → shifted_or_wide cost size (cond fits (Some n) None) ≡ new_number (cost + 3 * (size + length (shortest_atom n))) n
-shifted_either true cost size n e = refl
-shifted_either false cost size n e = sym (cond-false _ _ TooWide (sym e))
-
-pub shifted_or_wide-if_fits : (cost size : ℕ) (n : ℤ) → shifted_or_wide cost size (if_fits n) ≡ new_number (cost + 3 * (size + length (shortest_atom n))) n
-shifted_or_wide-if_fits cost size n = shifted_either (fits_128 n) cost size n refl
+pub asked_once : (n : ℤ) (go : ℤ → Applied) → or_wide (if_fits n) (λ m. or_wide (if_fits m) go) ≡ or_wide (if_fits n) go
+asked_once n go = asked_again (fits_128 n) n go refl
 
 -- what is given is within what is left
 pub answer_within : (old new : List Tree) (operands : ℕ) (left : Fuel) (code : List ℕ) (trees : List Tree) (result : Result Answer OpFault) → Answers old new operands left (applied code trees) result

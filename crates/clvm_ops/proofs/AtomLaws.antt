@@ -9,13 +9,13 @@ use Rattle.std.proofs.lemmas.List.Folds.{concat-append}
 use Rattle.std.proofs.lemmas.List.Sums.{sum_by-cons}
 use Rattle.sha2.specs.Sha256.{sha256}
 use Rattle.sha2.proofs.Facts256.{length-sha256}
-use Rattle.clvm_spec.specs.Tree.{Tree, Atom}
+use Rattle.clvm_spec.specs.Tree.{Tree, Atom, bytes_of}
 use Rattle.clvm_spec.specs.Outcomes.{Applied, Gives}
 use Rattle.clvm_spec.specs.Operators.{two_atoms, equal_flag, bytes_greater_flag, length_of, hash_of, concat_of, lengths, new_atom, new_number, written, free, flag}
 use Rattle.clvm_tree.specs.Nodes.{tree_at}
 use Rattle.clvm_tree.specs.Operators.{trees_at}
 use Rattle.clvm_tree.specs.declared.Node.{Node}
-use Rattle.clvm_ops.specs.OperandAtoms.{bytes_of, atoms_at, HaveAtoms}
+use Rattle.clvm_ops.specs.OperandAtoms.{atoms_at, HaveAtoms}
 use Rattle.clvm_ops.proofs.NodeLists.{length-trees_at}
 
 pub equal_flag_is : (operands : List Tree) (x y : List ℕ) (same : Bool) → ((go : List ℕ → List ℕ → Applied) → two_atoms operands go ≡ go x y) → same ≡ bytes_eq x y

@@ -1,54 +1,57 @@
 -- Parts of atoms, by what is read of the operands.
 use Rattle.std.proofs.Common.{◌≡◌, ℕ, ◌<◌, ◌≤◌, ℤ, pos, List, [], ◌∷◌, length, refl, sym, ap, arith, ◌∙◌}
-use Rattle.clvm_spec.specs.Tree.{Tree, Atom}
+use Rattle.clvm_spec.specs.Tree.{Tree, Atom, bytes_of}
 use Rattle.clvm_spec.specs.Numbers.{number}
 use Rattle.clvm_spec.specs.Outcomes.{Applied, WrongCount, Fails, Enough}
-use Rattle.clvm_spec.specs.Operators.{atom_at, number_at, part_of, part}
+use Rattle.clvm_spec.specs.Operators.{atom_at, number_at, part_of, part, part_or_fault}
 use Rattle.clvm_tree.specs.Operators.{trees_at, IsOpFault}
 use Rattle.clvm_tree.specs.declared.Node.{Node}
 use Rattle.clvm_tree.specs.declared.operators.OpFault.{OpFault}
-use Rattle.clvm_ops.specs.OperandAtoms.{bytes_of}
 use Rattle.clvm_ops.proofs.Answered.{fault_same}
 use Rattle.clvm_ops.proofs.ReadLaws.{number_read}
 
-part_same : (a : List ℕ) (atom : Tree) (s m e n : ℤ) → atom ≡ Atom a → m ≡ s → n ≡ e → part 1 a s e ≡ part 1 (bytes_of atom) m n
+-- the part as it is given
+abbrev part_given : List ℕ → ℤ → ℤ → Applied
+part_given a start end = part_or_fault 1 (part a start end)
+
+part_same : (a : List ℕ) (atom : Tree) (s m e n : ℤ) → atom ≡ Atom a → m ≡ s → n ≡ e → part_given a s e ≡ part_given (bytes_of atom) m n
 part_same a atom s m e n is start end =
-    ap (λ t. part 1 (bytes_of t) s e) (sym is) ∙ ap (λ k. part 1 (bytes_of atom) k e) (sym start) ∙ ap (part 1 (bytes_of atom) m) (sym end)
+    ap (λ t. part_given (bytes_of t) s e) (sym is) ∙ ap (λ k. part_given (bytes_of atom) k e) (sym start) ∙ ap (part_given (bytes_of atom) m) (sym end)
 
 -- two operands
 pub start_bad : (trees : List Tree) (atom start : Tree) (a : List ℕ) (f : OpFault) → atom ≡ Atom a → ((go : List ℕ → Applied) → IsOpFault trees (Enough (number_at 1 start go)) f)
     → IsOpFault trees (Enough (part_of 1 (atom ∷ start ∷ []))) f
 start_bad trees atom start a f is bad =
-    fault_same trees _ _ f (ap (λ t. atom_at 0 t (λ a. number_at 1 start (λ start. part 1 a (number start) (pos (length a))))) is) (bad (λ start. part 1 a (number start) (pos (length a))))
+    fault_same trees _ _ f (ap (λ t. atom_at 0 t (λ a. number_at 1 start (λ start. part_given a (number start) (pos (length a))))) is) (bad (λ start. part_given a (number start) (pos (length a))))
 
 pub part_from_is : (atom start : Tree) (a s : List ℕ) (m n : ℤ) → atom ≡ Atom a → start ≡ Atom s → length s ≤ 16 → m ≡ number s → n ≡ pos (length a)
-    → part_of 1 (atom ∷ start ∷ []) ≡ part 1 (bytes_of atom) m n
+    → part_of 1 (atom ∷ start ∷ []) ≡ part_given (bytes_of atom) m n
 part_from_is atom start a s m n is start_is short first last =
-    ap (λ t. atom_at 0 t (λ a. number_at 1 start (λ start. part 1 a (number start) (pos (length a))))) is
-    ∙ number_read 1 start s (λ start. part 1 a (number start) (pos (length a))) start_is short
+    ap (λ t. atom_at 0 t (λ a. number_at 1 start (λ start. part_given a (number start) (pos (length a))))) is
+    ∙ number_read 1 start s (λ start. part_given a (number start) (pos (length a))) start_is short
     ∙ part_same a atom (number s) m (pos (length a)) n is first last
 
 -- three
 abbrev behind_atom : Tree → Tree → List ℕ → Applied
-behind_atom start end a = number_at 1 start (λ start. number_at 2 end (λ end. part 1 a (number start) (number end)))
+behind_atom start end a = number_at 1 start (λ start. number_at 2 end (λ end. part_given a (number start) (number end)))
 
 pub start_before_end_bad : (trees : List Tree) (atom start end : Tree) (a : List ℕ) (f : OpFault) → atom ≡ Atom a → ((go : List ℕ → Applied) → IsOpFault trees (Enough (number_at 1 start go)) f)
     → IsOpFault trees (Enough (part_of 1 (atom ∷ start ∷ end ∷ []))) f
 start_before_end_bad trees atom start end a f is bad =
-    fault_same trees _ _ f (ap (λ t. atom_at 0 t (behind_atom start end)) is) (bad (λ start. number_at 2 end (λ end. part 1 a (number start) (number end))))
+    fault_same trees _ _ f (ap (λ t. atom_at 0 t (behind_atom start end)) is) (bad (λ start. number_at 2 end (λ end. part_given a (number start) (number end))))
 
 pub end_bad : (trees : List Tree) (atom start end : Tree) (a s : List ℕ) (f : OpFault) → atom ≡ Atom a → start ≡ Atom s → length s ≤ 16 → ((go : List ℕ → Applied) → IsOpFault trees (Enough (number_at 2 end go)) f)
     → IsOpFault trees (Enough (part_of 1 (atom ∷ start ∷ end ∷ []))) f
 end_bad trees atom start end a s f is start_is short bad =
-    fault_same trees _ _ f (ap (λ t. atom_at 0 t (behind_atom start end)) is ∙ number_read 1 start s (λ start. number_at 2 end (λ end. part 1 a (number start) (number end))) start_is short)
-    (bad (λ end. part 1 a (number s) (number end)))
+    fault_same trees _ _ f (ap (λ t. atom_at 0 t (behind_atom start end)) is ∙ number_read 1 start s (λ start. number_at 2 end (λ end. part_given a (number start) (number end))) start_is short)
+    (bad (λ end. part_given a (number s) (number end)))
 
 pub part_between_is : (atom start end : Tree) (a s e : List ℕ) (m n : ℤ) → atom ≡ Atom a → start ≡ Atom s → length s ≤ 16 → end ≡ Atom e → length e ≤ 16 → m ≡ number s → n ≡ number e
-    → part_of 1 (atom ∷ start ∷ end ∷ []) ≡ part 1 (bytes_of atom) m n
+    → part_of 1 (atom ∷ start ∷ end ∷ []) ≡ part_given (bytes_of atom) m n
 part_between_is atom start end a s e m n is start_is start_short end_is end_short first last =
     ap (λ t. atom_at 0 t (behind_atom start end)) is
-    ∙ number_read 1 start s (λ start. number_at 2 end (λ end. part 1 a (number start) (number end))) start_is start_short
-    ∙ number_read 2 end e (λ end. part 1 a (number s) (number end)) end_is end_short
+    ∙ number_read 1 start s (λ start. number_at 2 end (λ end. part_given a (number start) (number end))) start_is start_short
+    ∙ number_read 2 end e (λ end. part_given a (number s) (number end)) end_is end_short
     ∙ part_same a atom (number s) m (number e) n is first last
 
 -- Two operands or three are wanted.

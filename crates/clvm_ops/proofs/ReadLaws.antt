@@ -5,7 +5,7 @@ use Rattle.std.proofs.lemmas.Bool.{cond-true, le-leb}
 use Rattle.std.proofs.lemmas.List.{take_all, get_or-map, length-map}
 use Rattle.std.proofs.lemmas.List.Elements.{All-more, All-map, All-weaker}
 use Rattle.std.proofs.lemmas.List.Sums.{sum_by_more}
-use Rattle.clvm_spec.specs.Tree.{Tree, Atom, nil}
+use Rattle.clvm_spec.specs.Tree.{Tree, Atom, nil, bytes_of}
 use Rattle.clvm_spec.specs.Outcomes.{Applied, TooWide, Enough}
 use Rattle.clvm_spec.specs.Operators.{atom_at, number_at, two_atoms, two_numbers, atoms, atoms_from, numbers, numbers_from, lengths}
 use Rattle.clvm_tree.specs.Nodes.{tree_at}
@@ -13,7 +13,7 @@ use Rattle.clvm_tree.specs.Operators.{trees_at, IsOpFault}
 use Rattle.clvm_tree.specs.declared.Node.{Node}
 use Rattle.clvm_tree.specs.declared.operators.OpFault.{OpFault}
 use Rattle.clvm_spec.specs.Numbers.{is_short}
-use Rattle.clvm_ops.specs.OperandAtoms.{bytes_of, atoms_at, HaveAtoms, HaveNumbers}
+use Rattle.clvm_ops.specs.OperandAtoms.{atoms_at, HaveAtoms, HaveNumbers}
 use Rattle.clvm_ops.proofs.Answered.{fault_same}
 
 pub number_read : (place : ℕ) (tree : Tree) (bytes : List ℕ) (go : List ℕ → Applied) → tree ≡ Atom bytes → length bytes ≤ 16 → number_at place tree go ≡ go bytes

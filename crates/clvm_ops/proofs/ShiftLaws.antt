@@ -5,26 +5,23 @@ use Rattle.clvm_spec.specs.Tree.{Tree}
 use Rattle.clvm_spec.specs.Numbers.{number, unsigned, shortest_atom}
 use Rattle.clvm_spec.specs.Arithmetic.{if_fits, is_shift, shifted}
 use Rattle.clvm_spec.specs.Outcomes.{Applied, Fails, WrongShift}
-use Rattle.clvm_spec.specs.Operators.{two_numbers, new_number, shift_of_number, shift_of_bits}
-use Rattle.clvm_ops.specs.Answering.{shifted_or_wide}
-use Rattle.clvm_ops.proofs.Answered.{shifted_or_wide-if_fits}
-
-abbrev shifted_number : (cost size : ℕ) → ℤ → Applied
-shifted_number cost size n = new_number (cost + 3 * (size + length (shortest_atom n))) n
+use Rattle.clvm_spec.specs.Operators.{two_numbers, or_wide, new_shifted, written, shift_of_number, shift_of_bits}
+use Rattle.clvm_ops.proofs.Answered.{asked_once}
 
 abbrev shift : (cost size : ℕ) (n by : ℤ) → Applied
-shift cost size n by = cond (is_shift by) (shifted_number cost size (shifted n by)) (Fails WrongShift)
+shift cost size n by = cond (is_shift by) (new_shifted cost size (shifted n by)) (Fails WrongShift)
 
-shift_held : (cost size : ℕ) (n by : ℤ) (result : Option ℤ) → is_shift by ≡ true → result ≡ if_fits (shifted n by) → shift cost size n by ≡ shifted_or_wide cost size result
+shift_held : (cost size : ℕ) (n by : ℤ) (result : Option ℤ) → is_shift by ≡ true → result ≡ if_fits (shifted n by) → shift cost size n by ≡ or_wide result (new_shifted cost size)
 shift_held cost size n by result fair is =
-    cond-true _ (shifted_number cost size (shifted n by)) (Fails WrongShift) fair ∙ sym (shifted_or_wide-if_fits cost size (shifted n by)) ∙ ap (shifted_or_wide cost size) (sym is)
+    cond-true _ (new_shifted cost size (shifted n by)) (Fails WrongShift) fair ∙ sym (asked_once (shifted n by) (λ n. written (cost + 3 * (size + length (shortest_atom n))) (shortest_atom n)))
+    ∙ ap (λ held. or_wide held (new_shifted cost size)) (sym is)
 
 pub shift_of_number_is : (operands : List Tree) (x y : List ℕ) (n by : ℤ) (result : Option ℤ) → ((go : List ℕ → List ℕ → Applied) → two_numbers operands go ≡ go x y) → n ≡ number x → by ≡ number y
-    → is_shift by ≡ true → result ≡ if_fits (shifted n by) → shift_of_number 596 operands ≡ shifted_or_wide 596 (length x) result
+    → is_shift by ≡ true → result ≡ if_fits (shifted n by) → shift_of_number 596 operands ≡ or_wide result (new_shifted 596 (length x))
 shift_of_number_is operands x y n by result read first second fair is =
     read (λ a by. shift 596 (length a) (number a) (number by)) ∙ ap₂ (shift 596 (length x)) (sym first) (sym second) ∙ shift_held 596 (length x) n by result fair is
 
 pub shift_of_bits_is : (operands : List Tree) (x y : List ℕ) (n : ℕ) (by : ℤ) (result : Option ℤ) → ((go : List ℕ → List ℕ → Applied) → two_numbers operands go ≡ go x y) → n ≡ unsigned x → by ≡ number y
-    → is_shift by ≡ true → result ≡ if_fits (shifted (pos n) by) → shift_of_bits 277 operands ≡ shifted_or_wide 277 (length x) result
+    → is_shift by ≡ true → result ≡ if_fits (shifted (pos n) by) → shift_of_bits 277 operands ≡ or_wide result (new_shifted 277 (length x))
 shift_of_bits_is operands x y n by result read first second fair is =
     read (λ a by. shift 277 (length a) (pos (unsigned a)) (number by)) ∙ ap₂ (λ k b. shift 277 (length x) (pos k) b) (sym first) (sym second) ∙ shift_held 277 (length x) (pos n) by result fair is

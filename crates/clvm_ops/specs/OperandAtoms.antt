@@ -1,17 +1,12 @@
 -- The atoms of the operands, as the operators read them. This project's own.
-use Rattle.std.specs.Prelude.{◌≡◌, ℕ, ◌*◌, ◌^◌, ◌≤◌, true, List, [], length, map}
+use Rattle.std.specs.Prelude.{◌≡◌, ℕ, ◌*◌, ◌^◌, ◌≤◌, true, List, length, map}
 use Rattle.std.specs.List.{All}
-use Rattle.clvm_spec.specs.Tree.{Tree, Atom, Pair}
+use Rattle.clvm_spec.specs.Tree.{Tree, bytes_of}
 use Rattle.clvm_spec.specs.Numbers.{is_short}
 use Rattle.clvm_spec.specs.Outcomes.{Applied}
 use Rattle.clvm_spec.specs.Operators.{atoms, numbers, lengths}
 use Rattle.clvm_tree.specs.Operators.{trees_at}
 use Rattle.clvm_tree.specs.declared.Node.{Node}
-
--- the bytes of an atom; a pair has none
-abbrev pub bytes_of : Tree → List ℕ
-bytes_of (Atom bytes) = bytes
-bytes_of (Pair first rest) = []
 
 abbrev pub atoms_at : List Tree → List Node → List (List ℕ)
 atoms_at trees nodes = map bytes_of (trees_at trees nodes)

@@ -5,7 +5,7 @@ ghost use Rattle.std.specs.Int.{int_shr};
 ghost use Rattle.clvm_spec.specs.Arithmetic.{if_fits, is_zero, remainder, is_shift, shifted};
 
 /// What the quotient rounded down leaves; it has the sign of the divisor, which isn't 0.
-pub(crate) fn remainder_of(number: i128, divisor: i128) -> i128
+pub fn remainder_of(number: i128, divisor: i128) -> i128
     requires { is_zero divisor ≡ false }
     ensures { result ≡ remainder number divisor }
 {
@@ -89,8 +89,9 @@ fn bits_shifted_right(bits: u128, by: u32) -> i128
     if by < 128 { (bits >> by) as i128 } else { 0 }
 }
 
-/// The number times 2 to that power, which is a shift's, rounded down; None exactly where 128 bits don't hold it.
-pub(crate) fn shifted(number: i128, by: i128) -> Option<i128>
+/// The number times 2 to that power, rounded down; None exactly where 128 bits don't hold it. The power is from -65,535 to
+/// 65,535.
+pub fn shifted(number: i128, by: i128) -> Option<i128>
     requires { is_shift by ≡ true }
     ensures { result ≡ if_fits (shifted number by) }
 {
@@ -101,8 +102,8 @@ pub(crate) fn shifted(number: i128, by: i128) -> Option<i128>
     }
 }
 
-/// The same of a number without sign.
-pub(crate) fn bits_shifted(bits: u128, by: i128) -> Option<i128>
+/// The same of a number without sign; what comes of it is one with a sign.
+pub fn bits_shifted(bits: u128, by: i128) -> Option<i128>
     requires { is_shift by ≡ true }
     ensures { result ≡ if_fits (shifted (pos bits) by) }
 {

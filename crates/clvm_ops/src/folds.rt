@@ -1,12 +1,15 @@
 //! What is calculated of any count of numbers from the left.
 
-ghost use Rattle.std.specs.Prelude.{◌≡◌, ◌<◌, ◌≤◌, ◌^◌, ◌+ℤ◌, ◌-ℤ◌, true, length, fold, IfSome};
+ghost use Rattle.std.specs.Prelude.{◌≡◌, ℕ, ◌+◌, ◌*◌, ◌<◌, ◌≤◌, ◌^◌, ℤ, ◌+ℤ◌, ◌-ℤ◌, ◌*ℤ◌, true, List, length, fold, IfSome};
 ghost use Rattle.std.specs.List.{All};
+ghost use Rattle.clvm_spec.specs.Tree.{bytes_of};
 ghost use Rattle.clvm_spec.specs.Numbers.{number, shortest_atom, is_short};
-ghost use Rattle.clvm_spec.specs.Operators.{factor_cost};
+ghost use Rattle.clvm_spec.specs.Outcomes.{Applied};
+ghost use Rattle.clvm_spec.specs.Operators.{numbers, lengths, or_wide, new_number, from_left, factor_cost, factors_cost, difference_of, product_of};
 ghost use Rattle.clvm_tree.specs.Nodes.{tree_at, IsKnown, AreKnown};
-ghost use Rattle.clvm_ops.specs.OperandAtoms.{bytes_of, atoms_at};
-ghost use Rattle.clvm_ops.specs.Folds.{numbers_at, held_from_left, held_difference, held_times, held_product, bit_step, bit_none};
+ghost use Rattle.clvm_tree.specs.Operators.{trees_at};
+ghost use Rattle.clvm_ops.specs.OperandAtoms.{atoms_at};
+ghost use Rattle.clvm_ops.specs.Folds.{numbers_at, bitwise_of};
 
 use crate::operands::bytes_of;
 use clvm_spec::number_length;
@@ -25,7 +28,7 @@ fn number_of(trees: &Trees, operand: Node) -> i128
 pub(crate) fn plus_others(trees: &Trees, first: i128, others: &[Node]) -> Option<i128>
     requires known { AreKnown trees.now others.now }
     requires short { All (λ bytes. is_short bytes ≡ true) (atoms_at trees.now others.now) }
-    ensures { result ≡ held_from_left ◌+ℤ◌ first (numbers_at trees.now others.now) }
+    ensures { (go : ℤ → Applied) → from_left ◌+ℤ◌ first (numbers_at trees.now others.now) go ≡ or_wide result go }
 {
     let mut sum = first;
     for other in others {
@@ -38,7 +41,9 @@ pub(crate) fn plus_others(trees: &Trees, first: i128, others: &[Node]) -> Option
 pub(crate) fn difference(trees: &Trees, operands: &[Node]) -> Option<i128>
     requires known { AreKnown trees.now operands.now }
     requires short { All (λ bytes. is_short bytes ≡ true) (atoms_at trees.now operands.now) }
-    ensures { result ≡ held_difference (numbers_at trees.now operands.now) }
+    requires read { (go : List (List ℕ) → Applied) → numbers (trees_at trees.now operands.now) go ≡ go (atoms_at trees.now operands.now) }
+    ensures { (cost : ℕ) → difference_of cost (trees_at trees.now operands.now)
+        ≡ or_wide result (new_number (cost + 320 * length operands.now + 3 * lengths (atoms_at trees.now operands.now))) }
 {
     match operands {
         [] => Some(0),
@@ -50,7 +55,7 @@ pub(crate) fn difference(trees: &Trees, operands: &[Node]) -> Option<i128>
 fn less_others(trees: &Trees, first: i128, others: &[Node]) -> Option<i128>
     requires known { AreKnown trees.now others.now }
     requires short { All (λ bytes. is_short bytes ≡ true) (atoms_at trees.now others.now) }
-    ensures { result ≡ held_from_left ◌-ℤ◌ first (numbers_at trees.now others.now) }
+    ensures { (go : ℤ → Applied) → from_left ◌-ℤ◌ first (numbers_at trees.now others.now) go ≡ or_wide result go }
 {
     let mut difference = first;
     for other in others {
@@ -77,7 +82,7 @@ pub(crate) enum BitStep {
 impl BitStep {
     /// Joins two numbers bit by bit.
     fn join(self, a: i128, b: i128) -> i128
-        ensures { result ≡ bit_step self a b }
+        ensures { result ≡ (bitwise_of self).step a b }
     {
         match self {
             BitStep::And => a & b,
@@ -88,7 +93,7 @@ impl BitStep {
 
     /// What no numbers give.
     fn none(self) -> i128
-        ensures { result ≡ bit_none self }
+        ensures { result ≡ (bitwise_of self).none }
     {
         match self {
             BitStep::And => -1,
@@ -101,7 +106,7 @@ impl BitStep {
     pub(crate) fn of_all(self, trees: &Trees, operands: &[Node]) -> i128
         requires known { AreKnown trees.now operands.now }
         requires short { All (λ bytes. is_short bytes ≡ true) (atoms_at trees.now operands.now) }
-        ensures { result ≡ fold (bit_step self) (bit_none self) (numbers_at trees.now operands.now) }
+        ensures { result ≡ fold (bitwise_of self).step (bitwise_of self).none (numbers_at trees.now operands.now) }
     {
         let mut bits = self.none();
         for operand in operands {
@@ -128,7 +133,8 @@ fn times_others(trees: &Trees, first: i128, size: usize, others: &[Node]) -> Opt
     requires few { length others.now < 2 ^ 31 }
     requires known { AreKnown trees.now others.now }
     requires short { All (λ bytes. is_short bytes ≡ true) (atoms_at trees.now others.now) }
-    ensures product { result ≡ held_times 92 size first (atoms_at trees.now others.now) }
+    ensures product { from_left ◌*ℤ◌ first (numbers_at trees.now others.now) (new_number (92 + factors_cost size first (atoms_at trees.now others.now)))
+        ≡ or_wide result (λ product. new_number product.cost product.number) }
     ensures cost { IfSome result (λ product. product.cost < 2 ^ 100) }
 {
     let mut number = first;
@@ -147,7 +153,8 @@ pub(crate) fn whole_product(trees: &Trees, operands: &[Node]) -> Option<Product>
     requires few { length operands.now < 2 ^ 31 }
     requires known { AreKnown trees.now operands.now }
     requires short { All (λ bytes. is_short bytes ≡ true) (atoms_at trees.now operands.now) }
-    ensures product { result ≡ held_product (atoms_at trees.now operands.now) }
+    requires read { (go : List (List ℕ) → Applied) → numbers (trees_at trees.now operands.now) go ≡ go (atoms_at trees.now operands.now) }
+    ensures product { product_of 92 (trees_at trees.now operands.now) ≡ or_wide result (λ product. new_number product.cost product.number) }
     ensures cost { IfSome result (λ product. product.cost < 2 ^ 100) }
 {
     match operands {

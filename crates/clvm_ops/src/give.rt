@@ -2,11 +2,11 @@
 
 ghost use Rattle.std.specs.Prelude.{◌≡◌, ℕ, ◌+◌, ◌<◌, ◌≤◌, ◌^◌, List, length, IfOk, IfErr};
 ghost use Rattle.clvm_spec.specs.Tree.{Tree};
-ghost use Rattle.clvm_spec.specs.Operators.{free, flag, new_atom, new_number};
+ghost use Rattle.clvm_spec.specs.Operators.{free, flag, new_atom, or_wide, new_number};
 ghost use Rattle.clvm_spec.specs.OperatorTable.{within_cost};
 ghost use Rattle.clvm_tree.specs.Nodes.{tree_at, IsKnown};
 ghost use Rattle.clvm_tree.specs.Operators.{IsOpFault};
-ghost use Rattle.clvm_ops.specs.Answering.{Answers, IsCharged, number_or_wide};
+ghost use Rattle.clvm_ops.specs.Answering.{Answers, IsCharged};
 
 use clvm_spec::number_length;
 use clvm_tree::{Answer, Fuel, Node, OpFault, Trees, Which};
@@ -128,7 +128,7 @@ pub(crate) fn give_if_held(
 ) -> Result<Answer, OpFault>
     requires fits { length trees.old + left.pairs + left.bytes < 2 ^ 31 }
     requires cost { cost < 2 ^ 127 }
-    ensures { (operands : ℕ) → Answers trees.old trees.new operands left (number_or_wide cost number) result }
+    ensures { (operands : ℕ) → Answers trees.old trees.new operands left (or_wide number (new_number cost)) result }
 {
     match number {
         Some(number) => give_number(alloc, trees, number, cost, left),

@@ -1,7 +1,7 @@
 //! The operators of CLVM on trees in an arena.
 #![tactic(auto)]
 
-mod arithmetic;
+pub mod arithmetic;
 mod core_ops;
 mod division;
 mod folds;

@@ -6,7 +6,7 @@ ghost use Rattle.clvm_spec.specs.Operators.{sum_of, difference_of, product_of, q
 ghost use Rattle.clvm_tree.specs.Nodes.{AreKnown};
 ghost use Rattle.clvm_tree.specs.Operators.{trees_at};
 ghost use Rattle.clvm_ops.specs.Answering.{Answers};
-ghost use Rattle.clvm_ops.specs.Folds.{bit_step, bit_none};
+ghost use Rattle.clvm_ops.specs.Folds.{bitwise_of};
 
 use crate::folds::{BitStep, difference, plus_others, whole_product};
 use crate::give::{give_flag, give_if_held, give_number};
@@ -183,7 +183,7 @@ fn bits_of(
     requires known { AreKnown trees.old operands.now }
     requires fits { length trees.old + length operands.now + left.pairs + left.bytes < 2 ^ 31 }
     ensures { Answers trees.old trees.new (length operands.now) left
-        (bits_of (bit_step step) (bit_none step) 100 (trees_at trees.old operands.now)) result }
+        (bits_of (bitwise_of step) 100 (trees_at trees.old operands.now)) result }
 {
     let size = numbers(trees, operands)?;
     let cost = 100 + 264 * operands.len() as u128 + 3 * size;

@@ -1,12 +1,12 @@
 //! How operands are read, from the first to the last.
 
 ghost use Rattle.std.specs.Prelude.{◌≡◌, ℕ, ◌<◌, ◌≤◌, ◌^◌, List, length, IfOk, IfErr};
-ghost use Rattle.clvm_spec.specs.Tree.{Atom};
+ghost use Rattle.clvm_spec.specs.Tree.{Atom, bytes_of};
 ghost use Rattle.clvm_spec.specs.Outcomes.{Applied, Enough};
 ghost use Rattle.clvm_spec.specs.Operators.{atom_at, number_at, atoms, numbers, two_atoms, two_numbers};
 ghost use Rattle.clvm_tree.specs.Nodes.{tree_at, IsKnown, AreKnown};
 ghost use Rattle.clvm_tree.specs.Operators.{trees_at, IsOpFault};
-ghost use Rattle.clvm_ops.specs.OperandAtoms.{bytes_of, HaveAtoms, HaveNumbers};
+ghost use Rattle.clvm_ops.specs.OperandAtoms.{HaveAtoms, HaveNumbers};
 
 use clvm_tree::{Node, OpFault, Sight, Trees};
 

@@ -2,11 +2,11 @@
 
 ghost use Rattle.std.specs.Prelude.{◌≡◌, ℕ, ◌+◌, ◌<◌, ◌^◌, [], ◌∷◌, length};
 ghost use Rattle.std.specs.Option.{option_copied};
-ghost use Rattle.clvm_spec.specs.Operators.{part, part_of};
+ghost use Rattle.clvm_spec.specs.Tree.{bytes_of};
+ghost use Rattle.clvm_spec.specs.Operators.{part, part_or_fault, part_of};
 ghost use Rattle.clvm_tree.specs.Nodes.{tree_at, IsKnown, AreKnown};
 ghost use Rattle.clvm_tree.specs.Operators.{trees_at};
-ghost use Rattle.clvm_ops.specs.Answering.{Answers, part_given};
-ghost use Rattle.clvm_ops.specs.OperandAtoms.{bytes_of};
+ghost use Rattle.clvm_ops.specs.Answering.{Answers};
 
 use crate::give::charged;
 use crate::operands::{atom_at, bytes_of, number_at};
@@ -82,7 +82,8 @@ fn give_part(
 ) -> Result<Answer, OpFault>
     requires known { IsKnown trees.old atom.0 }
     requires fits { length trees.old + left.pairs + left.bytes < 2 ^ 31 }
-    ensures { (operands : ℕ) → Answers trees.old trees.new operands left (part 1 (bytes_of (tree_at trees.old atom.0)) start end) result }
+    ensures { (operands : ℕ) → Answers trees.old trees.new operands left
+        (part_or_fault 1 (part (bytes_of (tree_at trees.old atom.0)) start end)) result }
 {
     let bytes = bytes_of(trees, atom);
     let Some(bytes) = part_within(bytes, start, end) else {
@@ -95,7 +96,7 @@ fn give_part(
 
 // The bytes from a start to an end, where 0 <= start <= end <= length.
 fn part_within(bytes: &[u8], start: i128, end: i128) -> Option<&[u8]>
-    ensures { part 1 bytes.now start end ≡ part_given (option_copied result) }
+    ensures { option_copied result ≡ part bytes.now start end }
 {
     if 0 <= start && start <= end && end <= bytes.len() as i128 {
         Some(&bytes[start as usize..end as usize])

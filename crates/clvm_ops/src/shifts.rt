@@ -1,10 +1,10 @@
 //! Shifts.
 
 ghost use Rattle.std.specs.Prelude.{◌≡◌, ℕ, ◌+◌, ◌<◌, ◌≤◌, ◌^◌, length};
-ghost use Rattle.clvm_spec.specs.Operators.{shift_of_number, shift_of_bits};
+ghost use Rattle.clvm_spec.specs.Operators.{or_wide, new_shifted, shift_of_number, shift_of_bits};
 ghost use Rattle.clvm_tree.specs.Nodes.{AreKnown};
 ghost use Rattle.clvm_tree.specs.Operators.{trees_at};
-ghost use Rattle.clvm_ops.specs.Answering.{Answers, shifted_or_wide};
+ghost use Rattle.clvm_ops.specs.Answering.{Answers};
 
 use crate::arithmetic::{bits_shifted, shifted};
 use crate::give::give_number;
@@ -66,7 +66,7 @@ fn give_shifted(
     requires size { size ≤ 16 }
     requires cost { cost < 2 ^ 100 }
     requires fits { length trees.old + left.pairs + left.bytes < 2 ^ 31 }
-    ensures { (operands : ℕ) → Answers trees.old trees.new operands left (shifted_or_wide cost size number) result }
+    ensures { (operands : ℕ) → Answers trees.old trees.new operands left (or_wide number (new_shifted cost size)) result }
 {
     match number {
         Some(number) => {

@@ -1,6 +1,7 @@
 ghost use Rattle.std.specs.Prelude.{◌+◌, ◌≤◌, IfOk, vec_len};
 ghost use Rattle.clvm_tree.specs.Nodes.{IsKnown, AreKnown};
 
+mod arithmetic;
 mod cases;
 
 use crate::CoreOps;

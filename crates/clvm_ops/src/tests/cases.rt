@@ -40,6 +40,7 @@ ff0aff826162ff6280 gives 80 120 0 0 # 117 + 3
 ff0aff61ff6180 gives 80 119 0 0 # 117 + 2
 ff0aff81ffff7f80 gives 01 119 0 0 # 117 + 2
 ff0aff0580 fails Count
+ff0aff05ff05ff0580 fails Count
 ff0affff0506ff0580 fails Operand(0)
 ff0aff05ffff050680 fails Operand(1)
 # sha256 costs 87, 134 for each operand, 2 for each byte, and 320 for the hash's 32 bytes
@@ -133,6 +134,7 @@ ff13ff07ff02ff0180 fails Count
 ff13ffff0506ff8080 fails Operand(0)
 ff13ff07ffff050680 fails Operand(1)
 ff13ff910000000000000000000000000000000000ff8080 fails Wide
+ff13ff07ff91000000000000000000000000000000000080 fails Wide
 # divmod costs 1116, 6 for each byte, and 10 for each byte of both results
 ff14ff07ff0280 gives ff0301 1148 1 18 # 1116 + 2 * 6 + 2 * 10; (1 + 8) + (1 + 8)
 ff14ff81f9ff0280 gives ff81fc01 1148 1 18 # 1116 + 2 * 6 + 2 * 10; (1 + 8) + (1 + 8)
@@ -143,9 +145,11 @@ ff14ff9080000000000000000000000000000000ff0380 gives ff90d5555555555555555555555
 ff14ff07ff8080 fails ZeroDivisor
 ff14ff9080000000000000000000000000000000ff81ff80 fails Wide
 ff14ff0780 fails Count
+ff14ff07ff02ff0180 fails Count
 ff14ff07ffff050680 fails Operand(1)
 ff14ffff0506ff8080 fails Operand(0)
 ff14ff910000000000000000000000000000000000ff8080 fails Wide
+ff14ff07ff91000000000000000000000000000000000080 fails Wide
 # > costs 498, and 2 for each byte
 ff15ff02ff0180 gives 01 502 0 0 # 498 + 2 * 2
 ff15ff01ff0280 gives 80 502 0 0 # 498 + 2 * 2
@@ -154,8 +158,10 @@ ff15ff80ff81ff80 gives 01 500 0 0 # 498 + 2
 ff15ff820005ff0580 gives 80 504 0 0 # 498 + 3 * 2
 ff15ff907fffffffffffffffffffffffffffffffff908000000000000000000000000000000080 gives 01 562 0 0 # 498 + 32 * 2
 ff15ff0180 fails Count
+ff15ff02ff01ff0180 fails Count
 ff15ffff0506ff0580 fails Operand(0)
 ff15ff05ffff050680 fails Operand(1)
+ff15ff910000000000000000000000000000000000ff0580 fails Wide
 ff15ff05ff91000000000000000000000000000000000080 fails Wide
 # ash costs 596, 3 for each byte of the value and of the result, and 10 for each byte of the result
 ff16ff05ff0180 gives 0a 612 0 9 # 596 + 2 * 3 + 10; 1 + 8
@@ -170,12 +176,20 @@ ff16ff01ff83ff000180 gives 80 599 0 8 # 596 + 3; 8
 ff16ff81ffff83ff000180 gives 81ff 612 0 9 # 596 + 2 * 3 + 10; 1 + 8
 ff16ff81ffff7f80 gives 9080000000000000000000000000000000 807 0 24 # 596 + 17 * 3 + 16 * 10; 16 + 8
 ff16ff01ff7e80 gives 9040000000000000000000000000000000 807 0 24 # 596 + 17 * 3 + 16 * 10; 16 + 8
+ff16ff9080000000000000000000000000000000ff8080 gives 9080000000000000000000000000000000 852 0 24 # 596 + 32 * 3 + 16 * 10; 16 + 8
+ff16ff9080000000000000000000000000000000ff81ff80 gives 90c0000000000000000000000000000000 852 0 24 # 596 + 32 * 3 + 16 * 10; 16 + 8
+ff16ff907fffffffffffffffffffffffffffffffff81ff80 gives 903fffffffffffffffffffffffffffffff 852 0 24 # 596 + 32 * 3 + 16 * 10; 16 + 8
+ff16ff90c0000000000000000000000000000000ff0180 gives 9080000000000000000000000000000000 852 0 24 # 596 + 32 * 3 + 16 * 10; 16 + 8
+ff16ff903fffffffffffffffffffffffffffffffff0180 gives 907ffffffffffffffffffffffffffffffe 852 0 24 # 596 + 32 * 3 + 16 * 10; 16 + 8
 ff16ff80ff8301000080 fails Shift
 ff16ff80ff83ff000080 fails Shift
 ff16ff01ff7f80 fails Wide
+ff16ff9040000000000000000000000000000000ff0180 fails Wide
+ff16ff90bfffffffffffffffffffffffffffffffff0180 fails Wide
 ff16ff01ff8300ffff80 fails Wide
 ff16ff81ffff82008080 fails Wide
 ff16ff0580 fails Count
+ff16ff05ff01ff0180 fails Count
 ff16ffff0506ff8301000080 fails Operand(0)
 ff16ff05ffff050680 fails Operand(1)
 ff16ff05ff91000000000000000000000000000000000080 fails Wide
@@ -194,9 +208,11 @@ ff17ff01ff8300ffff80 fails Wide
 ff17ff80ff8301000080 fails Shift
 ff17ff80ff83ff000080 fails Shift
 ff17ff0580 fails Count
+ff17ff05ff01ff0180 fails Count
 ff17ffff0506ff8080 fails Operand(0)
 ff17ff05ffff050680 fails Operand(1)
 ff17ff910000000000000000000000000000000000ff8080 fails Wide
+ff17ff05ff91000000000000000000000000000000000080 fails Wide
 # logand, logior, logxor cost 100, 264 for each operand, 3 for each byte, and 10 for each byte of the result
 ff1880 gives 81ff 110 0 9 # 100 + 10; 1 + 8
 ff18ff0cff0a80 gives 08 644 0 9 # 100 + 2 * 264 + 2 * 3 + 10; 1 + 8

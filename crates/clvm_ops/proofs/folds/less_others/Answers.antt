@@ -1,7 +1,9 @@
-use Rattle.std.proofs.Common.{◌-ℤ◌, to_z, arith}
+use Rattle.std.proofs.Common.{◌-ℤ◌, to_z, sym, ap, ◌∙◌, arith}
 use Rattle.std.specs.Int.{w128}
+use Rattle.std.proofs.lemmas.Int.{to_z-of_z}
+use Rattle.clvm_spec.specs.Operators.{or_wide}
 use Rattle.clvm_ops.proofs.NodeLists.{known_at}
-use Rattle.clvm_ops.proofs.FoldLaws.{short_at, held_step}
+use Rattle.clvm_ops.proofs.FoldLaws.{short_at, left_step, left_wide, left_all}
 use Rattle.clvm_ops.proofs.folds.less_others.Goals as goal
 
 pub number_of-requires-clause-known : goal.number_of-requires-clause-known
@@ -11,6 +13,18 @@ pub number_of-requires-clause-short : goal.number_of-requires-clause-short
 number_of-requires-clause-short c = short_at c.args.trees.now c.args.others.now c.loop-other.other-index record { 0 = 0 } (omega arith) c.requires.short
 
 pub loop-other-preserved : goal.loop-other-preserved
-loop-other-preserved c =
-    held_step ◌-ℤ◌ c.args.trees.now c.args.others.now c.loop-other.other-index record { 0 = 0 } _ (to_z w128 c.loop-other.difference-bits) c.in_ok-difference.difference c.number_of.result (omega arith)
-    c.loop-other.invariant (record { sfits = c.number_of.type_inv }) c.number_of.ensures c.in_ok-difference.ensures.0 c.in_ok-difference.ensures.1
+loop-other-preserved c = λ go. c.loop-other.invariant go
+    ∙ left_step ◌-ℤ◌ c.args.trees.now c.args.others.now c.loop-other.other-index record { 0 = 0 } (to_z w128 c.loop-other.difference-bits) c.in_ok-difference.difference c.number_of.result go (omega arith)
+    (record { sfits = c.number_of.type_inv }) c.number_of.ensures c.in_ok-difference.ensures.0 c.in_ok-difference.ensures.1
+
+pub returns-in_err-difference : goal.returns-in_err-difference
+returns-in_err-difference c =
+    let invariant = simp (to_z-of_z, c.ranges.first) at c.loop-other.invariant in
+    λ go. invariant go ∙ left_wide ◌-ℤ◌ c.args.trees.now c.args.others.now c.loop-other.other-index record { 0 = 0 } (to_z w128 c.loop-other.difference-bits) c.number_of.result go (omega arith)
+    (record { sfits = c.number_of.type_inv }) c.number_of.ensures c.in_err-difference.ensures
+    ∙ ap (λ held. or_wide held go) (sym c.from_residual.ensures)
+
+pub returns : goal.returns
+returns c =
+    let invariant = simp (to_z-of_z, c.ranges.first) at c.loop-other.invariant in
+    λ go. invariant go ∙ left_all ◌-ℤ◌ c.args.trees.now c.args.others.now c.loop-other.other-index (to_z w128 c.loop-other.difference-bits) go (omega arith)

@@ -1,7 +1,9 @@
-use Rattle.std.proofs.Common.{to_z, length, ap, arith}
+use Rattle.std.proofs.Common.{◌*ℤ◌, to_z, length, sym, ap, ◌∙◌, arith}
 use Rattle.std.specs.Int.{w128}
+use Rattle.std.proofs.lemmas.Int.{to_z-of_z}
+use Rattle.clvm_spec.specs.Operators.{or_wide, new_number}
 use Rattle.clvm_ops.proofs.NodeLists.{known_at}
-use Rattle.clvm_ops.proofs.FoldLaws.{short_at, times_step}
+use Rattle.clvm_ops.proofs.FoldLaws.{short_at, left_wide, times_step}
 use Rattle.clvm_ops.proofs.folds.times_others.Goals as goal
 
 pub bytes_of-requires : goal.bytes_of-requires
@@ -23,3 +25,11 @@ loop-other-preserved c =
     (to_z w128 c.loop-other.number-bits) c.in_ok-number.number c.number_of.result c.bytes_of.result.now (omega arith) c.bytes_of.ensures c.loop-other.invariant
     (record { sfits = c.number_of.type_inv }) c.number_of.ensures c.in_ok-number.ensures.0 c.in_ok-number.ensures.1 c.factor_cost-cost.ensures.cost c.factor_cost-cost.ensures.few
     c.number_length-size.ensures.length c.number_length-size.ensures.few
+
+pub returns-in_err-number-clause-product : goal.returns-in_err-number-clause-product
+returns-in_err-number-clause-product c =
+    let before = simp (to_z-of_z, c.ranges.first) at c.loop-other.invariant.whole_is in
+    before
+    ∙ left_wide ◌*ℤ◌ c.args.trees.now c.args.others.now c.loop-other.other-index record { 0 = 0 } (to_z w128 c.loop-other.number-bits) c.number_of.result _ (omega arith)
+    (record { sfits = c.number_of.type_inv }) c.number_of.ensures c.in_err-number.ensures
+    ∙ ap (λ held. or_wide held (λ product. new_number product.cost product.number)) (sym c.from_residual.ensures)

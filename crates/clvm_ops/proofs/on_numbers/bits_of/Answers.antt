@@ -1,7 +1,7 @@
 use Rattle.std.proofs.Common.{FitsSigned, length, ◌∙◌}
 use Rattle.std.specs.Int.{w128}
 use Rattle.std.proofs.lemmas.Int.{to_z-of_z}
-use Rattle.clvm_ops.specs.Folds.{bit_step, bit_none}
+use Rattle.clvm_ops.specs.Folds.{bitwise_of}
 use Rattle.clvm_ops.proofs.Answered.{faulty, answers_same}
 use Rattle.clvm_ops.proofs.NumberOps.{bits_of_is}
 use Rattle.clvm_ops.proofs.on_numbers.bits_of.Goals as goal
@@ -14,4 +14,4 @@ returns c =
     let trees = c.args.trees.now in
     let fits : FitsSigned w128 c.of_all-bits.result = record { sfits = c.of_all-bits.type_inv } in
     answers_same trees c.give_number.new.trees (length c.args.operands.now) c.args.left _ _ _
-    (bits_of_is (bit_step c.args.step) (bit_none c.args.step) trees c.args.operands.now c.in_ok-size.size _ c.in_ok-size.ensures.ok (to_z-of_z w128 _ fits ∙ c.of_all-bits.ensures)) (c.give_number.ensures (length c.args.operands.now))
+    (bits_of_is (bitwise_of c.args.step) trees c.args.operands.now c.in_ok-size.size _ c.in_ok-size.ensures.ok (to_z-of_z w128 _ fits ∙ c.of_all-bits.ensures)) (c.give_number.ensures (length c.args.operands.now))

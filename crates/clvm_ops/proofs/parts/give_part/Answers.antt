@@ -1,6 +1,6 @@
 use Rattle.std.proofs.Common.{ap, sym, ◌∙◌}
 use Rattle.std.proofs.lemmas.Int.{to_z-of_z}
-use Rattle.clvm_spec.specs.Operators.{part}
+use Rattle.clvm_spec.specs.Operators.{part, part_or_fault}
 use Rattle.clvm_spec.specs.Tree.{Atom}
 use Rattle.clvm_ops.proofs.Answered.{spent, answers_same}
 use Rattle.clvm_ops.proofs.parts.give_part.Goals as goal
@@ -9,5 +9,5 @@ pub returns-in_err-charge : goal.returns-in_err-charge
 returns-in_err-charge c = λ n.
     let trees = c.args.trees.now in
     let within = simp (to_z-of_z, c.ranges.start, c.ranges.end) at c.in-Some.ensures in
-    answers_same trees trees n c.args.left _ _ _ (ap (λ bytes. part 1 bytes c.args.start c.args.end) (sym c.bytes_of-bytes.ensures) ∙ within)
+    answers_same trees trees n c.args.left _ _ _ (ap (part_or_fault 1) (ap (λ bytes. part bytes c.args.start c.args.end) (sym c.bytes_of-bytes.ensures) ∙ sym within))
     (spent trees n c.args.left _ c.in_err-charge.field-0.0 _ c.from_residual.ensures.1 (c.in_err-charge.ensures.err trees (Atom c.in-Some.bytes.now)))
