@@ -1,7 +1,6 @@
 -- How an operator form is begun, and how an operator ends it.
 use Rattle.std.proofs.Common.{◌≡◌, ℕ, suc, ◌+◌, ◌-◌, ◌<◌, ◌≤◌, true, false, List, [], ◌∷◌, ◌++◌, length, reverse, take, drop, get_or, Option, Some, None, refl, sym, ◌∙◌, ap, subst, arith, append_assoc}
 use Rattle.std.specs.Prelude.{Result, Ok, Err, OnOk, option_map}
-use Rattle.std.proofs.lemmas.Bool.{cond-true, cond-false}
 use Rattle.std.proofs.lemmas.List.{map-append, reverse-append, length-append, length-reverse, length-take-le, take-append-drop, take_at, drop_at, drop_more, drop_all}
 use Rattle.clvm_spec.specs.declared.fuel.Fuel.{Fuel}
 use Rattle.clvm_spec.specs.declared.fuel.Which.TheVariants.{Cost, Depth}
@@ -10,7 +9,8 @@ use Rattle.clvm_spec.specs.ProperList.{elements}
 use Rattle.clvm_spec.specs.Outcomes.{NotAList, WrongCount, Outcome, Done, Failed, Spent}
 use Rattle.clvm_spec.specs.Evaluation.{if_done, charge, goes_on, in_form, apply_values, values_of, deeper, operator_form, evaluation, is_code}
 use Rattle.clvm_tree.specs.Nodes.{tree_at, IsKnown, AreKnown, Grows}
-use Rattle.clvm_tree.specs.Operators.{trees_at, outcome_by, IsAnswer, IsWithin}
+use Rattle.clvm_spec.specs.Spending.{fuel_less}
+use Rattle.clvm_tree.specs.Operators.{trees_at, spending_of, outcome_by, IsAnswer, IsWithin}
 use Rattle.clvm_tree.specs.declared.Node.{Node}
 use Rattle.clvm_tree.specs.declared.operators.Answer.{Answer}
 use Rattle.clvm_eval.specs.declared.RunFault.{RunFault}
@@ -23,7 +23,7 @@ use Rattle.clvm_eval.specs.declared.pending.Task.TheVariants as task
 use Rattle.clvm_eval.specs.declared.pending.Pending.{Pending}
 use Rattle.clvm_eval.specs.PendingWork.{Work, Evaluate, Operate, operated, done_by, worked_off, ends, operand_work, Suffices, AllSuffice}
 use Rattle.clvm_eval.specs.Steps.{work_of, works, newest_first, pending_outcome, IsExpression, IsCall, IsTask, AreTasks, IsState, Awaits, expression_outcome, call_outcome, task_outcome, taken_by, goes_with, Advances, Pays, IsTooDeep, IsForm, HasElements, AddsOperands}
-use Rattle.clvm_eval.proofs.WorkLaws.{charge-paid, charge-short, deeper-within, deeper-spent, worked_off-append, AllSuffice-append, AllSuffice-operands, worked_off-form, ev-form}
+use Rattle.clvm_eval.proofs.WorkLaws.{charge-paid, charge-short, deeper-within, deeper-spent, worked_off-append, AllSuffice-append, AllSuffice-operands, operated-apply, operated-other, worked_off-form, ev-form}
 use Rattle.clvm_eval.proofs.StateLaws.{length-newest, AreTasks-push, AreTasks-init, AreKnown-take, AreKnown-drop, AreKnown-append, AreKnown-reverse, newest-taken, newest-kept, value_put}
 
 abbrev one_end : ℕ → Type 0
@@ -205,7 +205,7 @@ module _ (trees : List Tree) (before after : Pending) (call : Call) (program env
       let back : suc (length items - call.count) ≡ suc (length after.values.items) = omega arith in
       let part : call_outcome trees before call ≡ evaluation (tree_at trees program.0) (tree_at trees env.0) call.depth after.left =
       ap (λ vs. operated (tree_at trees call.code.0) form call.depth vs before.left) taken
-      ∙ cond-true (is_code 2 (tree_at trees call.code.0)) _ _ apply
+      ∙ operated-apply (tree_at trees call.code.0) form call.depth (tree_at trees program.0 ∷ tree_at trees env.0 ∷ []) before.left apply
       ∙ charge-paid 90 before.left after.left (evaluation (tree_at trees program.0) (tree_at trees env.0) call.depth) paid
       in
       let task_known : IsExpression trees e = record { program = end_known.1.0; env = end_known.0; shallow = known.shallow } in
@@ -246,12 +246,12 @@ taken_long trees before call awaits =
 
 pub wrong_count : (trees : List Tree) (before : Pending) (call : Call) → Awaits trees before call.count → is_code 2 (tree_at trees call.code.0) ≡ true → (call.count ≡ 2 → ⊥) → call_outcome trees before call ≡ Failed WrongCount (tree_at trees call.form.0)
 wrong_count trees before call awaits apply other =
-    cond-true (is_code 2 (tree_at trees call.code.0)) _ _ apply
+    operated-apply (tree_at trees call.code.0) (tree_at trees call.form.0) call.depth (take call.count (newest_first trees before.values.items)) before.left apply
     ∙ goes_on-count (tree_at trees call.form.0) call.depth (take call.count (newest_first trees before.values.items)) before.left (λ e. other (sym (taken_long trees before call awaits) ∙ e))
 
 pub unpaid_apply : (trees : List Tree) (before : Pending) (call : Call) → Awaits trees before call.count → is_code 2 (tree_at trees call.code.0) ≡ true → call.count ≡ 2 → before.left.cost < 90 → call_outcome trees before call ≡ Spent Cost
 unpaid_apply trees before call awaits apply two short =
-    cond-true (is_code 2 (tree_at trees call.code.0)) _ _ apply
+    operated-apply (tree_at trees call.code.0) (tree_at trees call.form.0) call.depth (take call.count (newest_first trees before.values.items)) before.left apply
     ∙ goes_on-short (tree_at trees call.form.0) call.depth (take call.count (newest_first trees before.values.items)) before.left (taken_long trees before call awaits ∙ two) short
 
 -- ---- an operator
@@ -289,13 +289,14 @@ on_ok (Err e) P Q f h = h
 
 pub other_part : (trees : List Tree) (before : Pending) (call : Call) → is_code 2 (tree_at trees call.code.0) ≡ false →
     call_outcome trees before call ≡ in_form (tree_at trees call.form.0) before.left (outcome_by (tree_at trees call.code.0) (take call.count (newest_first trees before.values.items)) before.left)
-other_part trees before call other = cond-false (is_code 2 (tree_at trees call.code.0)) _ _ other
+other_part trees before call other =
+    operated-other (tree_at trees call.code.0) (tree_at trees call.form.0) call.depth (take call.count (newest_first trees before.values.items)) before.left other
 
 pub answered : (old new : List Tree) (before after : Pending) (call : Call) (answer : Answer) → Awaits old before call.count → is_code 2 (tree_at old call.code.0) ≡ false → Grows old new →
     length new ≤ length old + answer.pairs + answer.bytes → IsWithin before.left answer →
     IsAnswer new (outcome_by (tree_at old call.code.0) (take call.count (newest_first old before.values.items)) before.left) answer →
     after.tasks.items ≡ before.tasks.items → after.values.items ≡ take (length before.values.items - call.count) before.values.items ++ answer.value ∷ [] →
-    after.left ≡ record before.left { cost = before.left.cost - answer.cost; pairs = before.left.pairs - answer.pairs; bytes = before.left.bytes - answer.bytes } →
+    after.left ≡ fuel_less (spending_of answer) before.left →
     Advances old new before after call.count (call_outcome old before call)
 answered old new before after call answer awaits other grows few within gives tasks values left =
     let costs : after.left.cost ≡ before.left.cost - answer.cost = ap (λ (l : Fuel). l.cost) left in
@@ -303,9 +304,9 @@ answered old new before after call answer awaits other grows few within gives ta
     let bytes : after.left.bytes ≡ before.left.bytes - answer.bytes = ap (λ (l : Fuel). l.bytes) left in
     let depths : after.left.depth ≡ before.left.depth = ap (λ (l : Fuel). l.depth) left in
     let some = within.some in
-    let c = within.cost in
-    let p = within.pairs in
-    let b = within.bytes in
+    let c = within.enough.cost in
+    let p = within.enough.pairs in
+    let b = within.enough.bytes in
     let form = tree_at old call.form.0 in
     let part : call_outcome old before call ≡ Done (tree_at new answer.value.0) after.left =
     other_part old before call other ∙ ap (in_form form before.left) gives.gives ∙ ap (Done (tree_at new answer.value.0)) (sym left)

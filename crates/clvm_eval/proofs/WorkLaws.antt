@@ -8,9 +8,10 @@ use Rattle.clvm_spec.specs.Tree.{Tree, Atom, Pair}
 use Rattle.clvm_spec.specs.ProperList.{elements}
 use Rattle.clvm_spec.specs.Path.{path_value}
 use Rattle.clvm_spec.specs.Outcomes.{NoOperator, Outcome, Done, Failed, Spent, Wide}
-use Rattle.clvm_spec.specs.Evaluation.{if_done, charge, is_byte, at_path, apply_values, values_of, deeper, operator_form, atom_form, evaluation}
+use Rattle.clvm_spec.specs.Evaluation.{if_done, charge, is_byte, is_code, at_path, goes_on, in_form, apply_values, values_of, deeper, operator_form, atom_form, evaluation}
 use Rattle.clvm_spec.proofs.Steps.{one_step_law}
-use Rattle.clvm_eval.specs.PendingWork.{Work, Evaluate, Operate, Going, done_by, worked_off, operand_work, Suffices, AllSuffice}
+use Rattle.clvm_tree.specs.Operators.{outcome_by}
+use Rattle.clvm_eval.specs.PendingWork.{Work, Evaluate, Operate, Going, operated, done_by, worked_off, operand_work, Suffices, AllSuffice}
 use Rattle.clvm_eval.specs.Steps.{Pays}
 
 -- ---- paying
@@ -85,6 +86,16 @@ worked_off-form code form env depth count operands go values left long =
     ap (λ t. if_done (apply_values evaluation code form depth t after) (λ v last. go (v ∷ drop count (vs ++ values)) last)) (take_at vs values count (same ∙ long))
     ∙ ap (λ d. if_done (apply_values evaluation code form depth vs after) (λ v last. go (v ∷ d) last)) (drop_at vs values count (same ∙ long)))
     ∙ sym (values_of-then value operands left (apply_values evaluation code form depth) (λ v after. go (v ∷ values) after))
+
+-- ---- the operator of a code
+
+pub operated-apply : (code form : Tree) (depth : ℕ) (values : List Tree) (left : Fuel) → is_code 2 code ≡ true → operated code form depth values left ≡ goes_on evaluation form depth values left
+operated-apply (Atom code) form depth values left apply = cond-true (is_byte 2 code) _ _ apply
+operated-apply (Pair first rest) form depth values left apply = absurd cc
+
+pub operated-other : (code form : Tree) (depth : ℕ) (values : List Tree) (left : Fuel) → is_code 2 code ≡ false → operated code form depth values left ≡ in_form form left (outcome_by code values left)
+operated-other (Atom code) form depth values left other = cond-false (is_byte 2 code) _ _ other
+operated-other (Pair first rest) form depth values left other = refl
 
 -- ---- one step of evaluation
 

@@ -1,9 +1,9 @@
 -- What pending work comes to, on trees: each piece of work goes on with what is below it. This project's own.
-use Rattle.std.specs.Prelude.{ℕ, suc, ◌-◌, ◌≤◌, List, [], ◌∷◌, take, drop, map, if◌then◌else◌}
+use Rattle.std.specs.Prelude.{ℕ, suc, ◌-◌, ◌≤◌, List, [], ◌∷◌, take, drop, map}
 use Rattle.clvm_spec.specs.declared.fuel.Fuel.{Fuel}
-use Rattle.clvm_spec.specs.Tree.{Tree}
+use Rattle.clvm_spec.specs.Tree.{Tree, Atom, Pair}
 use Rattle.clvm_spec.specs.Outcomes.{Outcome, Done, Wide}
-use Rattle.clvm_spec.specs.Evaluation.{if_done, is_code, goes_on, in_form, evaluation}
+use Rattle.clvm_spec.specs.Evaluation.{if_done, in_form, apply_values, evaluation}
 use Rattle.clvm_tree.specs.Operators.{outcome_by}
 
 pub data Work : Type 0 where
@@ -16,9 +16,10 @@ pub data Work : Type 0 where
 abbrev pub Going : Type 0
 Going = List Tree → Fuel → Outcome
 
+-- the operator of this code on its values
 abbrev pub operated : Tree → Tree → ℕ → List Tree → Fuel → Outcome
-operated code form depth values left =
-    if is_code 2 code then goes_on evaluation form depth values left else in_form form left (outcome_by code values left)
+operated (Atom code) form depth values left = apply_values evaluation code form depth values left
+operated (Pair first rest) form depth values left = in_form form left (outcome_by (Pair first rest) values left)
 
 abbrev pub done_by : Work → Going → Going
 done_by (Evaluate program env depth) go values left = if_done (evaluation program env depth left) (λ value after. go (value ∷ values) after)

@@ -1,9 +1,10 @@
 -- What a run answers on nodes: the outcome of evaluation, on the trees that the nodes stand for. This project's own.
-use Rattle.std.specs.Prelude.{◌≡◌, ℕ, ◌+◌, List}
+use Rattle.std.specs.Prelude.{◌≡◌, ℕ, ◌≤◌, List}
 use Rattle.clvm_spec.specs.declared.fuel.Fuel.{Fuel}
 use Rattle.clvm_spec.specs.Tree.{Tree}
 use Rattle.clvm_spec.specs.Outcomes.{NoStep, NotAList, WrongCount, WrongOperand, ZeroDivisor, WrongShift, NoOperator, Outcome}
 use Rattle.clvm_spec.specs.Outcomes as outcomes
+use Rattle.clvm_spec.specs.Evaluation.{run_cost}
 use Rattle.clvm_tree.specs.Nodes.{tree_at, IsKnown}
 use Rattle.clvm_eval.specs.declared.Why.{Why}
 use Rattle.clvm_eval.specs.declared.Why.TheVariants as why
@@ -37,7 +38,8 @@ pub record IsRunDone (trees : List Tree) (fuel : Fuel) (outcome : Outcome) (done
   pub known : IsKnown trees done.value.0
   pub left : Fuel
   pub is_done : outcome ≡ outcomes.Done (tree_at trees done.value.0) left
-  pub cost_is : left.cost + done.cost ≡ fuel.cost
+  pub within : left.cost ≤ fuel.cost
+  pub cost_is : done.cost ≡ run_cost fuel left
 
 -- The evaluation fails, for this reason, at this form.
 pub record IsFailure (trees : List Tree) (outcome : Outcome) (reason : Why) (form : ℕ) : Type 0 where

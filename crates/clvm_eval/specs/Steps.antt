@@ -6,8 +6,9 @@ use Rattle.clvm_spec.specs.Tree.{Tree, Atom}
 use Rattle.clvm_spec.specs.ProperList.{elements}
 use Rattle.clvm_spec.specs.Outcomes.{Outcome}
 use Rattle.clvm_spec.specs.Evaluation.{if_done, is_byte, evaluation}
+use Rattle.clvm_spec.specs.Spending.{fuel_less, paid}
 use Rattle.clvm_tree.specs.Nodes.{tree_at, IsKnown, AreKnown, HasParts}
-use Rattle.clvm_tree.specs.Operators.{trees_at}
+use Rattle.clvm_tree.specs.Operators.{trees_at, spending_of}
 use Rattle.clvm_tree.specs.declared.Node.{Node}
 use Rattle.clvm_tree.specs.declared.operators.Answer.{Answer}
 use Rattle.clvm_eval.specs.declared.RunFault.{RunFault}
@@ -107,7 +108,7 @@ StepsTo trees before after taken part result = MatchResult result (λ _. Advance
 
 pub record Pays (cost : ℕ) (old new : Fuel) : Type 0 where
   pub enough : cost ≤ old.cost
-  pub is : new ≡ record old { cost = old.cost - cost }
+  pub is : new ≡ paid cost old
 
 -- A value is paid and put on top.
 pub record Puts (value : Node) (cost : ℕ) (old new : Pending) : Type 0 where
@@ -150,4 +151,4 @@ pub record AddsOperands (trees : List Tree) (list : ℕ) (env : Tree) (depth : �
 pub record TakesAnswer (start : ℕ) (answer : Answer) (old new : Pending) : Type 0 where
   pub tasks : new.tasks.items ≡ old.tasks.items
   pub values : new.values.items ≡ take start old.values.items ++ answer.value ∷ []
-  pub left : new.left ≡ record old.left { cost = old.left.cost - answer.cost; pairs = old.left.pairs - answer.pairs; bytes = old.left.bytes - answer.bytes }
+  pub left : new.left ≡ fuel_less (spending_of answer) old.left

@@ -12,6 +12,7 @@ mod pending;
 
 pub use clvm_tree::{Fuel, Node, Operators, OutOfMemory, Trees, Which};
 pub use machine::run;
+pub use path::{Place, cost_of_path, follow};
 use std::alloc::AllocFailed;
 
 /// Why a step fails.

@@ -8,11 +8,13 @@ ghost use Rattle.clvm_eval.specs.Paths.{IsStep, IsFollowed, IsAstray, IsReached}
 use clvm_spec::arithmetic::leading_zero_bytes;
 use clvm_tree::{Node, Trees};
 
-/// A node, and the steps to it.
-#[derive(Clone, Copy, Debug)]
-pub(crate) struct Place {
-    pub(crate) node: Node,
-    pub(crate) steps: u32,
+/// Where a path leads.
+#[derive(Clone, Copy, Debug, PartialEq, Eq)]
+pub struct Place {
+    /// The node that the path ends at.
+    pub node: Node,
+    /// How many steps lead to it from the environment.
+    pub steps: u32,
 }
 
 // One step on, by a bit: 0 to the first, 1 to the rest. None at an atom.
@@ -45,8 +47,9 @@ fn descend(trees: &Trees, from: Place, bits: u32) -> Option<Place>
     Some(at)
 }
 
-/// Where a path leads, from its last byte on. None where it steps into an atom.
-pub(crate) fn follow(trees: &Trees, path: &[u8], env: Node) -> Option<Place>
+/// Where a path leads in an environment. Its bits are followed from the lowest up, so its last byte comes first; a
+/// path of zero bytes alone, or of none, leads to nil. None where it steps into an atom.
+pub fn follow(trees: &Trees, path: &[u8], env: Node) -> Option<Place>
     requires { IsKnown trees.now env.0 }
     ensures { MatchOption result (path_value path.now (tree_at trees.now env.0) ≡ Astray) (IsReached trees.now path.now (tree_at trees.now env.0)) }
 {
@@ -69,8 +72,8 @@ pub(crate) fn follow(trees: &Trees, path: &[u8], env: Node) -> Option<Place>
     descend(trees, at, path[zeros] as u32)
 }
 
-/// What it costs to follow a path by so many steps.
-pub(crate) fn cost_of_path(path: &[u8], steps: u32) -> u128
+/// What it costs to follow a path by so many steps: 44, 4 for each zero byte that it begins with, and 4 for each step.
+pub fn cost_of_path(path: &[u8], steps: u32) -> u128
     ensures { result ≡ path_cost path.now steps }
 {
     44 + 4 * leading_zero_bytes(path) as u128 + 4 * steps as u128

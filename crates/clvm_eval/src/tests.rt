@@ -1,6 +1,8 @@
 ghost use Rattle.std.specs.Prelude.{◌+◌, ◌≤◌, length, IfOk};
 ghost use Rattle.clvm_tree.specs.Nodes.{IsKnown};
 
+mod paths;
+
 use crate::{Done, Fuel, Node, Operators, OutOfMemory, RunFault, Trees, Which, Why, run};
 use clvm_tree::{Answer, OpFault, ReadFault};
 use std::alloc::Global;
@@ -100,7 +102,29 @@ fn comes_out_as_calculated_by_hand(rt: HostRuntime) -> Result<(), ReadFault> {
         // 1 in nil, with just its cost and with less
         (44, 0, b"\xff\x01\x80".as_slice(), Wanted::Done(44, b"\x80")),
         (43, 0, b"\xff\x01\x80", Wanted::Spent(Which::Cost)),
-        // (a (q . 2) 1) in (9)
+        // (q . 5), with just its cost and with less
+        (20, 0, b"\xff\xff\x01\x05\x80", Wanted::Done(20, b"\x05")),
+        (19, 0, b"\xff\xff\x01\x05\x80", Wanted::Spent(Which::Cost)),
+        // (a 1 1 1)
+        (
+            most,
+            1,
+            b"\xff\xff\x02\xff\x01\xff\x01\xff\x01\x80\x80",
+            Wanted::Failed(Why::Count, b"\xff\x02\xff\x01\xff\x01\xff\x01\x80"),
+        ),
+        // (a (q . 2) 1) in (9), also with just its cost and with less
+        (
+            203,
+            1,
+            b"\xff\xff\x02\xff\xff\x01\x02\xff\x01\x80\xff\x09\x80",
+            Wanted::Done(203, b"\x09"),
+        ),
+        (
+            202,
+            1,
+            b"\xff\xff\x02\xff\xff\x01\x02\xff\x01\x80\xff\x09\x80",
+            Wanted::Spent(Which::Cost),
+        ),
         (
             most,
             1,
