@@ -1,12 +1,12 @@
 -- What is read in frames.
-use Rattle.std.proofs.Common.{◌≡◌, ℕ, ◌+◌, ◌≤◌, Bool, true, false, List, [], ◌∷◌, ◌++◌, length, drop, None, Some, refl, sym, ◌∙◌, ap, subst, arith}
+use Rattle.std.proofs.Common.{◌≡◌, ℕ, ◌+◌, ◌≤◌, Bool, true, false, cond, List, [], ◌∷◌, ◌++◌, length, drop, None, Some, refl, sym, ◌∙◌, ap, arith}
+use Rattle.std.specs.Option.{unwrap_or}
 use Rattle.clvm_spec.specs.declared.scan_kind.ScanKind.{ScanKind}
-use Rattle.clvm_spec.specs.declared.scan_kind.ScanKind.TheVariants.{End, Close, Deep, Hex, Number, Text, Byte}
 use Rattle.clvm_spec.specs.declared.scan_kind.ScanKind.TheVariants as kind
 use Rattle.clvm_spec.specs.Tree.{Tree}
-use Rattle.clvm_spec.specs.Text.{Names, Parsed, Breaks, last_form, behind, with_rest}
+use Rattle.clvm_spec.specs.Grammar.{Breaks, is_dots_fault, last_form, behind, with_rest, list_from}
+use Rattle.clvm_spec.specs.Text.{Names, ParsedTree, clvm}
 use Rattle.clvm_spec.specs.Text as text
-use Rattle.clvm_spec.specs.TextLaws.{list_from}
 use Rattle.clvm_tree.specs.Nodes.{tree_at, Grows}
 use Rattle.clvm_tree.proofs.NodeLaws.{stays, grows_length}
 use Rattle.clvm_text.specs.declared.TextFault.{TextFault}
@@ -18,7 +18,7 @@ use Rattle.clvm_text.specs.declared.frames.Frame.TheVariants.{Whole, Inner, Elem
 use Rattle.clvm_text.specs.declared.frames.Mode.{Mode}
 use Rattle.clvm_text.specs.declared.frames.Mode.TheVariants as mode
 use Rattle.clvm_text.specs.Forms.{formed, IsKnownForm, IsFormWithin}
-use Rattle.clvm_text.specs.Frames.{framed, resumed, IsBegun, AreBegun, IsFrameWithin, AreWithin, IsModeWithin, element_of, elements, told_by, told_or, fault_behind, fault_in, IsBroken}
+use Rattle.clvm_text.specs.Frames.{framed, resumed, IsBegun, AreBegun, IsFrameWithin, AreWithin, IsModeWithin, element_of, elements, told_by, fault_behind, fault_in, IsBroken}
 
 -- ---- forms in trees that grow
 
@@ -36,17 +36,17 @@ form_later a b (form.Unknown place) le h = omega (arith, le, h)
 
 -- ---- one more frame, within the others
 
-pub resumed-push : (trees : List Tree) (bytes : List ℕ) (frames : List Frame) (frame : Frame) (parsed : Parsed) → resumed trees bytes (frames ++ frame ∷ []) parsed ≡ resumed trees bytes frames (framed trees bytes frame parsed)
+pub resumed-push : (trees : List Tree) (bytes : List ℕ) (frames : List Frame) (frame : Frame) (parsed : ParsedTree) → resumed trees bytes (frames ++ frame ∷ []) parsed ≡ resumed trees bytes frames (framed trees bytes frame parsed)
 resumed-push trees bytes [] frame parsed = refl
 resumed-push trees bytes (f ∷ frames) frame parsed = ap (framed trees bytes f) (resumed-push trees bytes frames frame parsed)
 
-framed-grows : (a b : List Tree) (bytes : List ℕ) (frame : Frame) (parsed : Parsed) → Grows a b → IsBegun a frame → framed b bytes frame parsed ≡ framed a bytes frame parsed
+framed-grows : (a b : List Tree) (bytes : List ℕ) (frame : Frame) (parsed : ParsedTree) → Grows a b → IsBegun a frame → framed b bytes frame parsed ≡ framed a bytes frame parsed
 framed-grows a b bytes Whole parsed grows h = refl
 framed-grows a b bytes (Inner depth) parsed grows h = refl
-framed-grows a b bytes (Element first) parsed grows h = ap (λ f. behind f parsed) (formed-grows a b bytes first grows h)
+framed-grows a b bytes (Element first) parsed grows h = ap (λ f. behind clvm [] f parsed) (formed-grows a b bytes first grows h)
 framed-grows a b bytes (Dot place) parsed grows h = refl
 
-pub resumed-grows : (a b : List Tree) (bytes : List ℕ) (frames : List Frame) (parsed : Parsed) → Grows a b → AreBegun a frames → resumed b bytes frames parsed ≡ resumed a bytes frames parsed
+pub resumed-grows : (a b : List Tree) (bytes : List ℕ) (frames : List Frame) (parsed : ParsedTree) → Grows a b → AreBegun a frames → resumed b bytes frames parsed ≡ resumed a bytes frames parsed
 resumed-grows a b bytes [] parsed grows h = refl
 resumed-grows a b bytes (f ∷ frames) parsed grows h =
     framed-grows a b bytes f (resumed b bytes frames parsed) grows h.0 ∙ ap (framed a bytes f) (resumed-grows a b bytes frames parsed grows h.1)
@@ -102,105 +102,61 @@ no_frames (f ∷ frames) e = absurd (omega (arith, e))
 
 -- ---- faults
 
-abbrev is_deep : ScanKind → Bool
-is_deep Deep = true
-is_deep what = false
-
--- What is told behind an unknown name is nesting too deep exactly where that was wrong.
-record TellsBehind (name : List ℕ) (what : ScanKind) (parsed : Parsed) : Type 0 where
+-- What is told behind an unknown name is a dot's fault exactly where that was wrong.
+record TellsBehind (name : List ℕ) (what : ScanKind) (parsed : ParsedTree) : Type 0 where
   told : ScanKind
   from : List ℕ
   is : parsed ≡ Breaks told (Some name) from
-  deep : is_deep told ≡ is_deep what
+  dots : is_dots_fault told ≡ is_dots_fault what
 
 -- this fault is told where this was wrong
-abbrev Tells : ℕ → List ℕ → ScanKind → TextFault → Parsed → Type 0
-Tells limit bytes what (Read told place) parsed = (place ≤ limit) × (parsed ≡ Breaks told None (drop place bytes)) × (is_deep told ≡ is_deep what)
+abbrev Tells : ℕ → List ℕ → ScanKind → TextFault → ParsedTree → Type 0
+Tells limit bytes what (Read told place) parsed = (place ≤ limit) × (parsed ≡ Breaks told None (drop place bytes)) × (is_dots_fault told ≡ is_dots_fault what)
 Tells limit bytes what (Name place) parsed = (place ≤ limit) × TellsBehind (drop place bytes) what parsed
 Tells limit bytes what (Left place) parsed = ⊥
 Tells limit bytes what OutOfMemory parsed = ⊥
 
 -- The frame keeps what breaks.
-abbrev Keeps : (Parsed → Parsed) → Type 0
+abbrev Keeps : (ParsedTree → ParsedTree) → Type 0
 Keeps frame = (what : ScanKind) (unknown : _) (from : List ℕ) → frame (Breaks what unknown from) ≡ Breaks what unknown from
 
-tells_kept : (limit : ℕ) (bytes : List ℕ) (what : ScanKind) (fault : TextFault) (parsed : Parsed) (frame : Parsed → Parsed) → Keeps frame → Tells limit bytes what fault parsed → Tells limit bytes what fault (frame parsed)
+tells_kept : (limit : ℕ) (bytes : List ℕ) (what : ScanKind) (fault : TextFault) (parsed : ParsedTree) (frame : ParsedTree → ParsedTree) → Keeps frame → Tells limit bytes what fault parsed → Tells limit bytes what fault (frame parsed)
 tells_kept limit bytes what (Read told place) parsed frame keeps h = (h.0, ap frame h.1 ∙ keeps told None (drop place bytes), h.2)
 tells_kept limit bytes what (Name place) parsed frame keeps h =
-    (h.0, record { told = h.1.told; from = h.1.from; is = ap frame h.1.is ∙ keeps h.1.told (Some (drop place bytes)) h.1.from; deep = h.1.deep })
+    (h.0, record { told = h.1.told; from = h.1.from; is = ap frame h.1.is ∙ keeps h.1.told (Some (drop place bytes)) h.1.from; dots = h.1.dots })
 tells_kept limit bytes what (Left place) parsed frame keeps h = absurd h
 tells_kept limit bytes what OutOfMemory parsed frame keeps h = absurd h
 
-tells_name : (limit : ℕ) (bytes : List ℕ) (what : ScanKind) (fault : TextFault) (parsed : Parsed) (name : ℕ) → name ≤ limit → Tells limit bytes what fault parsed → Tells limit bytes what (Name name) (behind (text.Unknown (drop name bytes)) parsed)
+tells_name : (limit : ℕ) (bytes : List ℕ) (what : ScanKind) (fault : TextFault) (parsed : ParsedTree) (name : ℕ) → name ≤ limit → Tells limit bytes what fault parsed → Tells limit bytes what (Name name) (behind clvm [] (text.Unknown (drop name bytes)) parsed)
 tells_name limit bytes what (Read told place) parsed name le h =
-    (le, record { told = told; from = drop place bytes; is = ap (behind (text.Unknown (drop name bytes))) h.1; deep = h.2 })
+    (le, record { told = told; from = drop place bytes; is = ap (behind clvm [] (text.Unknown (drop name bytes))) h.1; dots = h.2 })
 tells_name limit bytes what (Name place) parsed name le h =
-    (le, record { told = h.1.told; from = h.1.from; is = ap (behind (text.Unknown (drop name bytes))) h.1.is; deep = h.1.deep })
+    (le, record { told = h.1.told; from = h.1.from; is = ap (behind clvm [] (text.Unknown (drop name bytes))) h.1.is; dots = h.1.dots })
 tells_name limit bytes what (Left place) parsed name le h = absurd h
 tells_name limit bytes what OutOfMemory parsed name le h = absurd h
 
 -- behind a dot
-record IsShallow (what : ScanKind) : Type 0 where
-  told : (place : ℕ) → told_by (Dot place) what ≡ Some (Read kind.Dot place)
-  last : (dot : List ℕ) (unknown : _) (from : List ℕ) → last_form dot (Breaks what unknown from) ≡ Breaks kind.Dot None dot
+last_broken : (dot : List ℕ) (told what : ScanKind) (unknown : _) (from : List ℕ) (parsed : ParsedTree) (dots : Bool) → parsed ≡ Breaks told unknown from → is_dots_fault told ≡ is_dots_fault what → is_dots_fault what ≡ dots →
+    last_form dot parsed ≡ cond dots (Breaks kind.Dot None dot) (Breaks told unknown from)
+last_broken dot told what unknown from parsed dots is same e = ap (last_form dot) is ∙ ap (λ t. cond t (Breaks kind.Dot None dot) (Breaks told unknown from)) (same ∙ e)
 
-shallow : (what : ScanKind) → is_deep what ≡ false → IsShallow what
-shallow End e = record { told = λ place. refl; last = λ dot unknown from. refl }
-shallow Close e = record { told = λ place. refl; last = λ dot unknown from. refl }
-shallow kind.Dot e = record { told = λ place. refl; last = λ dot unknown from. refl }
-shallow Hex e = record { told = λ place. refl; last = λ dot unknown from. refl }
-shallow Number e = record { told = λ place. refl; last = λ dot unknown from. refl }
-shallow Text e = record { told = λ place. refl; last = λ dot unknown from. refl }
-shallow Byte e = record { told = λ place. refl; last = λ dot unknown from. refl }
-shallow Deep e = cc
+tells_dot : (limit : ℕ) (bytes : List ℕ) (what : ScanKind) (fault : TextFault) (parsed : ParsedTree) (place : ℕ) (dots : Bool) → is_dots_fault what ≡ dots → place ≤ limit → Tells limit bytes what fault parsed →
+    Tells limit bytes what (unwrap_or (cond dots (Some (Read kind.Dot place)) None) fault) (last_form (drop place bytes) parsed)
+tells_dot limit bytes what (Read told at) parsed place true e le h = (le, last_broken (drop place bytes) told what None (drop at bytes) parsed true h.1 h.2 e, sym e)
+tells_dot limit bytes what (Name at) parsed place true e le h = (le, last_broken (drop place bytes) h.1.told what (Some (drop at bytes)) h.1.from parsed true h.1.is h.1.dots e, sym e)
+tells_dot limit bytes what (Read told at) parsed place false e le h = (h.0, last_broken (drop place bytes) told what None (drop at bytes) parsed false h.1 h.2 e, h.2)
+tells_dot limit bytes what (Name at) parsed place false e le h =
+    (h.0, record { told = h.1.told; from = h.1.from; is = last_broken (drop place bytes) h.1.told what (Some (drop at bytes)) h.1.from parsed false h.1.is h.1.dots e; dots = h.1.dots })
+tells_dot limit bytes what (Left at) parsed place dots e le h = absurd h
+tells_dot limit bytes what OutOfMemory parsed place dots e le h = absurd h
 
-deep : (what : ScanKind) → is_deep what ≡ true → what ≡ Deep
-deep End e = cc
-deep Close e = cc
-deep kind.Dot e = cc
-deep Hex e = cc
-deep Number e = cc
-deep Text e = cc
-deep Byte e = cc
-deep Deep e = refl
-
-tells_dot : (limit : ℕ) (bytes : List ℕ) (what : ScanKind) (fault : TextFault) (parsed : Parsed) (place : ℕ) → place ≤ limit → is_deep what ≡ false → Tells limit bytes what fault parsed →
-    Tells limit bytes what (Read kind.Dot place) (last_form (drop place bytes) parsed)
-tells_dot limit bytes what (Read told at) parsed place le e h =
-    (le, ap (last_form (drop place bytes)) h.1 ∙ (shallow told (h.2 ∙ e)).last (drop place bytes) None (drop at bytes), sym e)
-tells_dot limit bytes what (Name at) parsed place le e h =
-    (le, ap (last_form (drop place bytes)) h.1.is ∙ (shallow h.1.told (h.1.deep ∙ e)).last (drop place bytes) (Some (drop at bytes)) h.1.from, sym e)
-tells_dot limit bytes what (Left at) parsed place le e h = absurd h
-tells_dot limit bytes what OutOfMemory parsed place le e h = absurd h
-
-tells_deep : (limit : ℕ) (bytes : List ℕ) (fault : TextFault) (parsed : Parsed) (place : ℕ) → Tells limit bytes Deep fault parsed → Tells limit bytes Deep fault (last_form (drop place bytes) parsed)
-tells_deep limit bytes (Read told at) parsed place h =
-    let is = deep told h.2 in
-    (h.0, ap (last_form (drop place bytes)) (h.1 ∙ ap (λ k. Breaks k None (drop at bytes)) is) ∙ ap (λ k. Breaks k None (drop at bytes)) (sym is), h.2)
-tells_deep limit bytes (Name at) parsed place h =
-    let is = deep h.1.told h.1.deep in (
-      h.0,
-      record {
-        told = Deep;
-        from = h.1.from;
-        is = ap (last_form (drop place bytes)) (h.1.is ∙ ap (λ k. Breaks k (Some (drop at bytes)) h.1.from) is);
-        deep = refl;
-      },
-    )
-tells_deep limit bytes (Left at) parsed place h = absurd h
-tells_deep limit bytes OutOfMemory parsed place h = absurd h
-
-tells_frame : (trees : List Tree) (limit : ℕ) (bytes : List ℕ) (what : ScanKind) (fault : TextFault) (parsed : Parsed) (frame : Frame) → IsFrameWithin limit frame → Tells limit bytes what fault parsed →
-    Tells limit bytes what (told_or (told_by frame what) fault) (framed trees bytes frame parsed)
+tells_frame : (trees : List Tree) (limit : ℕ) (bytes : List ℕ) (what : ScanKind) (fault : TextFault) (parsed : ParsedTree) (frame : Frame) → IsFrameWithin limit frame → Tells limit bytes what fault parsed →
+    Tells limit bytes what (unwrap_or (told_by frame what) fault) (framed trees bytes frame parsed)
 tells_frame trees limit bytes what fault parsed Whole h t = t
-tells_frame trees limit bytes what fault parsed (Inner depth) h t = tells_kept limit bytes what fault parsed (with_rest list_from depth) (λ told unknown from. refl) t
-tells_frame trees limit bytes what fault parsed (Element (form.Tree node)) h t = tells_kept limit bytes what fault parsed (behind (Names (tree_at trees node.0))) (λ told unknown from. refl) t
+tells_frame trees limit bytes what fault parsed (Inner depth) h t = tells_kept limit bytes what fault parsed (with_rest clvm (list_from clvm) depth []) (λ told unknown from. refl) t
+tells_frame trees limit bytes what fault parsed (Element (form.Tree node)) h t = tells_kept limit bytes what fault parsed (behind clvm [] (Names (tree_at trees node.0))) (λ told unknown from. refl) t
 tells_frame trees limit bytes what fault parsed (Element (form.Unknown name)) h t = tells_name limit bytes what fault parsed name h t
-tells_frame trees limit bytes what fault parsed (Dot place) h t =
-    elim (is_deep what) as (λ b. is_deep what ≡ b → Tells limit bytes what (told_or (told_by (Dot place) what) fault) (last_form (drop place bytes) parsed)) [
-      | true ↦ (λ e. let is = deep what e in subst (λ k. Tells limit bytes k (told_or (told_by (Dot place) k) fault) (last_form (drop place bytes) parsed)) (sym is) (tells_deep limit bytes fault parsed place (subst (λ k. Tells limit bytes k fault parsed) is t)))
-      | false ↦ (λ e. subst (λ o. Tells limit bytes what (told_or o fault) (last_form (drop place bytes) parsed)) (sym ((shallow what e).told place)) (tells_dot limit bytes what fault parsed place h e t))
-    ] refl
+tells_frame trees limit bytes what fault parsed (Dot place) h t = tells_dot limit bytes what fault parsed place (is_dots_fault what) refl h t
 
 tells : (trees : List Tree) (limit : ℕ) (bytes : List ℕ) (what : ScanKind) (place : ℕ) (frames : List Frame) → place ≤ limit → AreWithin limit frames →
     Tells limit bytes what (fault_behind frames what place) (resumed trees bytes frames (Breaks what None (drop place bytes)))
@@ -208,14 +164,14 @@ tells trees limit bytes what place [] le h = (le, refl, refl)
 tells trees limit bytes what place (f ∷ frames) le h =
     tells_frame trees limit bytes what (fault_behind frames what place) (resumed trees bytes frames (Breaks what None (drop place bytes))) f h.0 (tells trees limit bytes what place frames le h.1)
 
-tells_broken : (limit : ℕ) (bytes : List ℕ) (what : ScanKind) (fault : TextFault) (parsed : Parsed) → Tells limit bytes what fault parsed → IsBroken limit bytes fault parsed
+tells_broken : (limit : ℕ) (bytes : List ℕ) (what : ScanKind) (fault : TextFault) (parsed : ParsedTree) → Tells limit bytes what fault parsed → IsBroken limit bytes fault parsed
 tells_broken limit bytes what (Read told place) parsed h = (h.0, h.1)
 tells_broken limit bytes what (Name place) parsed h = (h.0, record { what = h.1.told; from = h.1.from; is = h.1.is })
 tells_broken limit bytes what (Left place) parsed h = absurd h
 tells_broken limit bytes what OutOfMemory parsed h = tt
 
 -- what is read where something is wrong
-abbrev pub refused : List ℕ → Mode → ScanKind → List ℕ → Parsed
+abbrev pub refused : List ℕ → Mode → ScanKind → List ℕ → ParsedTree
 refused bytes (mode.Form depth) what from = Breaks what None from
 refused bytes (mode.List depth begun) what from = Breaks what None from
 refused bytes (mode.Close last dot) what from = Breaks kind.Dot None (drop dot bytes)

@@ -8,13 +8,11 @@ use Rattle.std.proofs.lemmas.Bool.Decides.{nat_tests}
 use Rattle.clvm_spec.specs.Tree.{Tree, Pair}
 use Rattle.clvm_spec.specs.Numbers.{number, shortest_atom, has_sign_byte, without_sign_bytes}
 use Rattle.clvm_spec.specs.Text as text
-use Rattle.clvm_spec.specs.Text.{is_short_number, text_at}
+use Rattle.clvm_spec.specs.Text.{is_short_number, opening, first_of, text_at}
 use Rattle.clvm_spec.proofs.ShortestLaws.{shortest-number, length-without}
 use Rattle.clvm_tree.specs.Nodes.{tree_at, IsKnown, HasParts}
-use Rattle.clvm_text.specs.declared.printer.Position.{Position}
-use Rattle.clvm_text.specs.declared.printer.Position.TheVariants.{Head, Alone, Rest}
 use Rattle.clvm_text.specs.declared.printer.Pending.{Pending}
-use Rattle.clvm_text.specs.Positions.{position_of, opening, first_of, text_of, texts, AreKnown}
+use Rattle.clvm_text.specs.Positions.{position_of, text_of, texts, AreKnown}
 
 -- ---- short numbers
 
@@ -78,27 +76,26 @@ too_long most out next later whole written more =
     omega (arith, ap length written, length-append out (next ++ later), length-append next later, more)
 
 -- a pair's text: what it begins with, its first and its rest
-pub pair_text : (position : Position) (first rest : Tree) → text_at (position_of position) (Pair first rest) ≡ opening position ++ (text_at (position_of (first_of position)) first ++ text_at text.AsRest rest)
-pair_text Head first rest = refl
-pair_text Alone first rest = refl
-pair_text Rest first rest = refl
+pub pair_text : (position : text.Position) (first rest : Tree) → text_at position (Pair first rest) ≡ opening position ++ (text_at (first_of position) first ++ text_at text.AsRest rest)
+pair_text text.AsHead first rest = refl
+pair_text text.Alone first rest = refl
+pair_text text.AsRest first rest = refl
 
-pub opening_some : (position : Position) (first : Tree) (rest : Tree) → length (opening position) ≤ length (text_at (position_of position) (Pair first rest))
-opening_some position first rest =
-    omega (arith, ap length (pair_text position first rest), length-append (opening position) (text_at (position_of (first_of position)) first ++ text_at text.AsRest rest))
+pub opening_some : (position : text.Position) (first : Tree) (rest : Tree) → length (opening position) ≤ length (text_at position (Pair first rest))
+opening_some position first rest = omega (arith, ap length (pair_text position first rest), length-append (opening position) (text_at (first_of position) first ++ text_at text.AsRest rest))
 
 pub pair_printed : (trees : List Tree) (out new whole : List ℕ) (popped after last : List Pending) (next first rest : Pending) → HasParts trees next.node.0 first.node.0 rest.node.0 →
-    position_of rest.position ≡ text.AsRest → first.position ≡ first_of next.position → new ≡ out ++ opening next.position → after ≡ popped ++ rest ∷ [] → last ≡ after ++ first ∷ [] →
+    position_of rest.position ≡ text.AsRest → position_of first.position ≡ first_of (position_of next.position) → new ≡ out ++ opening (position_of next.position) → after ≡ popped ++ rest ∷ [] → last ≡ after ++ first ∷ [] →
     out ++ (text_of trees next ++ texts trees popped) ≡ whole → new ++ texts trees last ≡ whole
 pair_printed trees out new whole popped after last next first rest parts at_rest at_first out_is after_is last_is written =
-    let o = opening next.position in
+    let o = opening (position_of next.position) in
     let f = text_of trees first in
     let r = text_of trees rest in
     let p = texts trees popped in
     let pending : texts trees last ≡ f ++ (r ++ p) = ap (texts trees) last_is ∙ texts-push trees after first ∙ ap (λ s. f ++ s) (ap (texts trees) after_is ∙ texts-push trees popped rest) in
-    let first_is : text_at (position_of (first_of next.position)) (tree_at trees first.node.0) ≡ f = ap (λ q. text_at (position_of q) (tree_at trees first.node.0)) (sym at_first) in
+    let first_is : text_at (first_of (position_of next.position)) (tree_at trees first.node.0) ≡ f = ap (λ q. text_at q (tree_at trees first.node.0)) (sym at_first) in
     let rest_is : text_at text.AsRest (tree_at trees rest.node.0) ≡ r = ap (λ q. text_at q (tree_at trees rest.node.0)) (sym at_rest) in
-    let printed : text_of trees next ≡ o ++ (f ++ r) = ap (text_at (position_of next.position)) parts.pair ∙ pair_text next.position (tree_at trees first.node.0) (tree_at trees rest.node.0)
+    let printed : text_of trees next ≡ o ++ (f ++ r) = ap (text_at (position_of next.position)) parts.pair ∙ pair_text (position_of next.position) (tree_at trees first.node.0) (tree_at trees rest.node.0)
     ∙ ap (λ s. o ++ (s ++ text_at text.AsRest (tree_at trees rest.node.0))) first_is ∙ ap (λ s. o ++ (f ++ s)) rest_is in
     let later : text_of trees next ++ p ≡ o ++ (f ++ (r ++ p)) = ap (λ s. s ++ p) printed ∙ append_assoc o (f ++ r) p ∙ ap (λ s. o ++ s) (append_assoc f r p) in
     ap (λ s. s ++ texts trees last) out_is ∙ append_assoc out o (texts trees last) ∙ ap (λ s. out ++ (o ++ s)) pending ∙ ap (λ s. out ++ s) (sym later) ∙ written

@@ -6,7 +6,8 @@ use Rattle.clvm_spec.specs.declared.scan_kind.ScanKind.TheVariants as kind
 use Rattle.clvm_spec.specs.Tree.{Tree}
 use Rattle.clvm_spec.specs.Places.{place_of}
 use Rattle.clvm_spec.specs.Tokens.{Token, Front, Took, Unread, AtEnd, token_of}
-use Rattle.clvm_spec.specs.Text.{Parsed, Parses, form_of, Unreadable, Unnamed, at_last, whole, scanned}
+use Rattle.clvm_spec.specs.Grammar.{Parses}
+use Rattle.clvm_spec.specs.Text.{ParsedTree, form_of, Unreadable, Unnamed, at_last, whole, scanned}
 use Rattle.text_tokens.specs.Ends.{IsEnd}
 use Rattle.clvm_tree.specs.Nodes.{tree_at}
 use Rattle.clvm_tree.specs.declared.Node.{Node}
@@ -43,7 +44,7 @@ pub goes_form : (old new : List Tree) (text rest from after : List ℕ) (before 
     Takes old before awaited (place_of text from) token new later (Goes next) → form_of text ≡ told new text later next (token_of after)
 goes_form old new text rest from after before later awaited next token end is same t = at_place old text rest from after before awaited token end is same ∙ t.1 text after
 
-broken_later : (a b : ℕ) (text : List ℕ) (fault : TextFault) (parsed : Parsed) → a ≤ b → IsBroken a text fault parsed → IsBroken b text fault parsed
+broken_later : (a b : ℕ) (text : List ℕ) (fault : TextFault) (parsed : ParsedTree) → a ≤ b → IsBroken a text fault parsed → IsBroken b text fault parsed
 broken_later a b text (Read kind place) parsed le h = (omega (arith, le, h.0), h.1)
 broken_later a b text (Name place) parsed le h = (omega (arith, le, h.0), h.1)
 broken_later a b text (Left place) parsed le h = h

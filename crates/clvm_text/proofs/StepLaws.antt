@@ -7,9 +7,10 @@ use Rattle.clvm_spec.specs.declared.scan_kind.ScanKind.TheVariants as kind
 use Rattle.clvm_spec.specs.Tree.{Tree}
 use Rattle.clvm_spec.specs.Tokens.{Token, Front, Took, Unread, AtEnd, token_of}
 use Rattle.clvm_spec.specs.Tokens as tokens
-use Rattle.clvm_spec.specs.Text.{Parsed, Parses, Breaks, opened, form_at, with_rest, list_at}
-use Rattle.clvm_spec.specs.TextLaws.{list_from}
-use Rattle.clvm_spec.proofs.ScanLaws.{list_step}
+use Rattle.clvm_spec.specs.Grammar.{Parses, Breaks, opened, form_at, with_rest, list_at, list_from}
+use Rattle.clvm_spec.specs.Text.{ParsedTree, clvm}
+use Rattle.clvm_spec.proofs.GrammarLaws.{list_step}
+use Rattle.clvm_spec.proofs.FreePlaces.{places_are_free}
 use Rattle.clvm_text.specs.declared.TextFault.{TextFault}
 use Rattle.clvm_text.specs.declared.frames.Form.{Form}
 use Rattle.clvm_text.specs.declared.frames.Frame.{Frame}
@@ -30,24 +31,25 @@ some_same a b e = cc
 
 -- ---- what goes on
 
-open_within : (depth : ℕ) (from rest : List ℕ) → depth < 1024 → opened list_from depth from rest ≡ list_at list_from (depth + 1) false (token_of rest)
+open_within : (depth : ℕ) (from rest : List ℕ) → depth < 1024 → opened clvm (list_from clvm) depth from rest ≡ list_at clvm (list_from clvm) (depth + 1) [] false (token_of rest)
 open_within depth from rest h =
     let within : nat_lt depth 1024 ≡ true = grind (arith, nat_tests) in
     let next : suc depth ≡ depth + 1 = omega arith in
-    ap (λ t. cond t (list_from (suc depth) false rest) (Breaks kind.Deep None from)) within ∙ ap (λ n. list_from n false rest) next ∙ list_step (depth + 1) false rest
+    ap (λ t. cond t (list_from clvm (suc depth) from false rest) (Breaks kind.Deep None from)) within ∙ ap (λ n. list_from clvm n from false rest) next
+    ∙ places_are_free (depth + 1) from [] false rest ∙ list_step clvm (depth + 1) [] false rest
 
 pub opens_list : (trees : List Tree) (text : List ℕ) (frames : List Frame) (awaited : Mode) (depth : ℕ) (from rest : List ℕ) → depth_in awaited ≡ Some depth → depth < 1024 →
     told trees text frames awaited (Took tokens.Opening from rest) ≡ told trees text (frames ++ list_frame awaited ∷ []) (mode.List (depth + 1) false) (token_of rest)
 opens_list trees text frames (mode.Form d) depth from rest e h =
     let same = some_same d depth e in
     let within : d < 1024 = omega (arith, same, h) in
-    ap (resumed trees text frames) (open_within d from rest within ∙ ap (λ n. list_at list_from (n + 1) false (token_of rest)) same)
-    ∙ sym (resumed-push trees text frames Whole (list_at list_from (depth + 1) false (token_of rest)))
+    ap (resumed trees text frames) (open_within d from rest within ∙ ap (λ n. list_at clvm (list_from clvm) (n + 1) [] false (token_of rest)) same)
+    ∙ sym (resumed-push trees text frames Whole (list_at clvm (list_from clvm) (depth + 1) [] false (token_of rest)))
 opens_list trees text frames (mode.List d begun) depth from rest e h =
     let same = some_same d depth e in
     let within : d < 1024 = omega (arith, same, h) in
-    ap (λ p. resumed trees text frames (with_rest list_from d p)) (open_within d from rest within ∙ ap (λ n. list_at list_from (n + 1) false (token_of rest)) same)
-    ∙ sym (resumed-push trees text frames (Inner d) (list_at list_from (depth + 1) false (token_of rest)))
+    ap (λ p. resumed trees text frames (with_rest clvm (list_from clvm) d [] p)) (open_within d from rest within ∙ ap (λ n. list_at clvm (list_from clvm) (n + 1) [] false (token_of rest)) same)
+    ∙ sym (resumed-push trees text frames (Inner d) (list_at clvm (list_from clvm) (depth + 1) [] false (token_of rest)))
 opens_list trees text frames (mode.Close last place) depth from rest e h = absurd (none_some depth e)
   where
     none_some : (n : ℕ) → None ≡ Some n → ⊥
@@ -57,29 +59,29 @@ pub takes_dot : (trees : List Tree) (text : List ℕ) (frames : List Frame) (awa
     told trees text frames awaited (Took tokens.Point (drop place text) rest) ≡ told trees text (frames ++ Dot place ∷ []) (mode.Form depth) (token_of rest)
 takes_dot trees text frames (mode.Form d) depth place rest e = cc
 takes_dot trees text frames (mode.List d true) depth place rest e =
-    sym (resumed-push trees text frames (Dot place) (form_at list_from d (token_of rest))) ∙ ap (λ n. resumed trees text (frames ++ Dot place ∷ []) (form_at list_from n (token_of rest))) (some_same d depth e)
+    sym (resumed-push trees text frames (Dot place) (form_at clvm (list_from clvm) d (token_of rest))) ∙ ap (λ n. resumed trees text (frames ++ Dot place ∷ []) (form_at clvm (list_from clvm) n (token_of rest))) (some_same d depth e)
 takes_dot trees text frames (mode.List d false) depth place rest e = cc
 takes_dot trees text frames (mode.Close last p) depth place rest e = cc
 
 -- a token that is a form
-read_leaf : (l : Leaf) (depth place : ℕ) (text rest : List ℕ) → form_at list_from depth (Took (token_of_leaf l) (drop place text) rest) ≡ Parses (leaf_form place l text) rest
+read_leaf : (l : Leaf) (depth place : ℕ) (text rest : List ℕ) → form_at clvm (list_from clvm) depth (Took (token_of_leaf l) (drop place text) rest) ≡ Parses (leaf_form place l text) rest
 read_leaf (leaf.Literal literal) depth place text rest = refl
 read_leaf (leaf.Symbol name) depth place text rest = refl
 
-leaf_in_list : (l : Leaf) (depth : ℕ) (begun : Bool) (from rest : List ℕ) → list_at list_from depth begun (Took (token_of_leaf l) from rest) ≡ with_rest list_from depth (form_at list_from depth (Took (token_of_leaf l) from rest))
+leaf_in_list : (l : Leaf) (depth : ℕ) (begun : Bool) (from rest : List ℕ) → list_at clvm (list_from clvm) depth [] begun (Took (token_of_leaf l) from rest) ≡ with_rest clvm (list_from clvm) depth [] (form_at clvm (list_from clvm) depth (Took (token_of_leaf l) from rest))
 leaf_in_list (leaf.Literal literal) depth begun from rest = refl
 leaf_in_list (leaf.Symbol name) depth begun from rest = refl
 
 takes_leaf : (trees : List Tree) (text : List ℕ) (awaited : Mode) (l : Leaf) (depth place : ℕ) (rest : List ℕ) → depth_in awaited ≡ Some depth →
     at_token trees text awaited (Took (token_of_leaf l) (drop place text) rest) ≡ at_form awaited (leaf_form place l text) rest
 takes_leaf trees text (mode.Form d) l depth place rest e = read_leaf l d place text rest
-takes_leaf trees text (mode.List d begun) l depth place rest e = leaf_in_list l d begun (drop place text) rest ∙ ap (with_rest list_from d) (read_leaf l d place text rest)
+takes_leaf trees text (mode.List d begun) l depth place rest e = leaf_in_list l d begun (drop place text) rest ∙ ap (with_rest clvm (list_from clvm) d []) (read_leaf l d place text rest)
 takes_leaf trees text (mode.Close last p) l depth place rest e = cc
 
 -- ---- what stops
 
 -- The fault of a token at this place, told behind the frames.
-pub stops_at : (trees : List Tree) (text : List ℕ) (frames : List Frame) (awaited : Mode) (what : ScanKind) (place : ℕ) (fault : TextFault) (parsed : Parsed) →
+pub stops_at : (trees : List Tree) (text : List ℕ) (frames : List Frame) (awaited : Mode) (what : ScanKind) (place : ℕ) (fault : TextFault) (parsed : ParsedTree) →
     AreWithin place frames → IsModeWithin place awaited → fault ≡ fault_in frames awaited what place → parsed ≡ refused text awaited what (drop place text) → IsBroken place text fault (resumed trees text frames parsed)
 stops_at trees text frames awaited what place fault parsed within mode_within e p =
     subst (λ f. IsBroken place text f (resumed trees text frames parsed)) (sym e)
@@ -96,14 +98,14 @@ no_leaf trees text (mode.List d begun) l from rest e = cc
 no_leaf trees text (mode.Close last place) (leaf.Literal literal) from rest e = refl
 no_leaf trees text (mode.Close last place) (leaf.Symbol name) from rest e = refl
 
-deep_within : (depth : ℕ) (from rest : List ℕ) → 1024 ≤ depth → opened list_from depth from rest ≡ Breaks kind.Deep None from
+deep_within : (depth : ℕ) (from rest : List ℕ) → 1024 ≤ depth → opened clvm (list_from clvm) depth from rest ≡ Breaks kind.Deep None from
 deep_within depth from rest h =
     let full : nat_lt depth 1024 ≡ false = grind (arith, nat_tests) in
-    ap (λ t. cond t (list_from (suc depth) false rest) (Breaks kind.Deep None from)) full
+    ap (λ t. cond t (list_from clvm (suc depth) from false rest) (Breaks kind.Deep None from)) full
 
 pub too_deep : (trees : List Tree) (text : List ℕ) (awaited : Mode) (depth : ℕ) (from rest : List ℕ) → depth_in awaited ≡ Some depth → 1024 ≤ depth → at_token trees text awaited (Took tokens.Opening from rest) ≡ refused text awaited kind.Deep from
 too_deep trees text (mode.Form d) depth from rest e h = deep_within d from rest (omega (arith, some_same d depth e, h))
-too_deep trees text (mode.List d begun) depth from rest e h = ap (with_rest list_from d) (deep_within d from rest (omega (arith, some_same d depth e, h)))
+too_deep trees text (mode.List d begun) depth from rest e h = ap (with_rest clvm (list_from clvm) d []) (deep_within d from rest (omega (arith, some_same d depth e, h)))
 too_deep trees text (mode.Close last place) depth from rest e h = cc
 
 pub no_dot : (trees : List Tree) (text : List ℕ) (awaited : Mode) (from rest : List ℕ) → begun_in awaited ≡ None → at_token trees text awaited (Took tokens.Point from rest) ≡ refused text awaited kind.Dot from
@@ -150,14 +152,14 @@ pub placed : (trees : List Tree) (text : List ℕ) (frames : List Frame) (awaite
 placed trees text frames awaited d depth begun form rest is e =
     let same = some_same d depth (sym (ap depth_in is) ∙ e) in
     ap (λ m. resumed trees text frames (at_form m (formed trees text form) rest)) is
-    ∙ ap (λ n. resumed trees text frames (with_rest list_from n (Parses (formed trees text form) rest))) same
-    ∙ ap (λ p. resumed trees text frames (framed trees text (Element form) p)) (list_step depth true rest)
-    ∙ sym (resumed-push trees text frames (Element form) (list_at list_from depth true (token_of rest)))
+    ∙ ap (λ n. resumed trees text frames (with_rest clvm (list_from clvm) n [] (Parses (formed trees text form) rest))) same
+    ∙ ap (λ p. resumed trees text frames (framed trees text (Element form) p)) (list_step clvm depth [] true rest)
+    ∙ sym (resumed-push trees text frames (Element form) (list_at clvm (list_from clvm) depth [] true (token_of rest)))
 
 -- ---- steps
 
 -- the same of what reads the same
-pub leads_same : (limit : ℕ) (a b : List ℕ → List ℕ → Parsed) (new : List Tree) (after : List Frame) (step : Step) → ((text rest : List ℕ) → a text rest ≡ b text rest) → Leads limit b new after step → Leads limit a new after step
+pub leads_same : (limit : ℕ) (a b : List ℕ → List ℕ → ParsedTree) (new : List Tree) (after : List Frame) (step : Step) → ((text rest : List ℕ) → a text rest ≡ b text rest) → Leads limit b new after step → Leads limit a new after step
 leads_same limit a b new after (Done whole) same l = (l.0, l.1, λ text rest. same text rest ∙ l.2 text rest)
 leads_same limit a b new after (Goes next) same l = (l.0, λ text rest. same text rest ∙ l.1 text rest)
 

@@ -1,12 +1,13 @@
 -- How a text is read on, where lists are open. This project's own.
 use Rattle.std.specs.Prelude.{◌≡◌, ℕ, ◌+◌, ◌≤◌, List, [], ◌∷◌, drop, if◌then◌else◌, Option, Some, None}
+use Rattle.std.specs.Option.{unwrap_or}
 use Rattle.clvm_spec.specs.declared.scan_kind.ScanKind.{ScanKind}
 use Rattle.clvm_spec.specs.declared.scan_kind.ScanKind.TheVariants as kind
 use Rattle.clvm_spec.specs.Tree.{Tree}
 use Rattle.clvm_spec.specs.Tokens.{Token, Front, Took, token_of}
 use Rattle.clvm_spec.specs.Tokens as tokens
-use Rattle.clvm_spec.specs.Text.{Named, Parsed, Parses, Breaks, form_at, closed, last_form, behind, with_rest, list_at}
-use Rattle.clvm_spec.specs.TextLaws.{list_from}
+use Rattle.clvm_spec.specs.Grammar.{Parses, Breaks, is_dots_fault, closed, last_form, form_at, behind, with_rest, list_at, list_from}
+use Rattle.clvm_spec.specs.Text.{Named, ParsedTree, clvm}
 use Rattle.clvm_text.specs.Forms.{formed, IsKnownForm, IsFormWithin}
 use Rattle.clvm_text.specs.declared.TextFault.{TextFault}
 use Rattle.clvm_text.specs.declared.TextFault.TheVariants.{Read, Name, Left, OutOfMemory}
@@ -19,25 +20,25 @@ use Rattle.clvm_text.specs.declared.frames.Mode.TheVariants as mode
 use Rattle.clvm_text.specs.declared.frames.Step.{Step}
 use Rattle.clvm_text.specs.declared.frames.Step.TheVariants.{Done, Goes}
 
--- what is made of a form that is read in the frame
-abbrev pub framed : List Tree → List ℕ → Frame → Parsed → Parsed
+-- What is made of a form that is read in the frame. CLVM's forms don't keep the places of lists, so none stands here.
+abbrev pub framed : List Tree → List ℕ → Frame → ParsedTree → ParsedTree
 framed trees text Whole parsed = parsed
-framed trees text (Inner depth) parsed = with_rest list_from depth parsed
-framed trees text (Element first) parsed = behind (formed trees text first) parsed
+framed trees text (Inner depth) parsed = with_rest clvm (list_from clvm) depth [] parsed
+framed trees text (Element first) parsed = behind clvm [] (formed trees text first) parsed
 framed trees text (Dot place) parsed = last_form (drop place text) parsed
 
 -- the same in all frames, the outermost first
-abbrev pub resumed : List Tree → List ℕ → List Frame → Parsed → Parsed
+abbrev pub resumed : List Tree → List ℕ → List Frame → ParsedTree → ParsedTree
 resumed trees text [] parsed = parsed
 resumed trees text (frame ∷ above) parsed = framed trees text frame (resumed trees text above parsed)
 
 -- what is read where this is awaited
-abbrev pub at_token : List Tree → List ℕ → Mode → Front → Parsed
-at_token trees text (mode.Form depth) front = form_at list_from depth front
-at_token trees text (mode.List depth begun) front = list_at list_from depth begun front
+abbrev pub at_token : List Tree → List ℕ → Mode → Front → ParsedTree
+at_token trees text (mode.Form depth) front = form_at clvm (list_from clvm) depth front
+at_token trees text (mode.List depth begun) front = list_at clvm (list_from clvm) depth [] begun front
 at_token trees text (mode.Close last place) front = closed (drop place text) (formed trees text last) front
 
-abbrev pub told : List Tree → List ℕ → List Frame → Mode → Front → Parsed
+abbrev pub told : List Tree → List ℕ → List Frame → Mode → Front → ParsedTree
 told trees text frames awaited front = resumed trees text frames (at_token trees text awaited front)
 
 -- ---- what the frames hold
@@ -92,17 +93,12 @@ told_by Whole what = None
 told_by (Inner depth) what = None
 told_by (Element (form.Tree node)) what = None
 told_by (Element (form.Unknown place)) what = Some (Name place)
-told_by (Dot place) kind.Deep = None
-told_by (Dot place) what = Some (Read kind.Dot place)
-
-abbrev pub told_or : Option TextFault → TextFault → TextFault
-told_or None fault = fault
-told_or (Some earlier) fault = earlier
+told_by (Dot place) what = if is_dots_fault what then Some (Read kind.Dot place) else None
 
 -- the first fault, where something is wrong behind the frames
 abbrev pub fault_behind : List Frame → ScanKind → ℕ → TextFault
 fault_behind [] what place = Read what place
-fault_behind (frame ∷ above) what place = told_or (told_by frame what) (fault_behind above what place)
+fault_behind (frame ∷ above) what place = unwrap_or (told_by frame what) (fault_behind above what place)
 
 -- What is wrong behind the last form is its dot's fault.
 abbrev pub fault_in : List Frame → Mode → ScanKind → ℕ → TextFault
@@ -111,13 +107,13 @@ fault_in frames (mode.List depth begun) what place = fault_behind frames what pl
 fault_in frames (mode.Close last dot) what place = fault_behind frames kind.Dot dot
 
 -- An unknown name stands before what is wrong.
-pub record BreaksBehind (name : List ℕ) (parsed : Parsed) : Type 0 where
+pub record BreaksBehind (name : List ℕ) (parsed : ParsedTree) : Type 0 where
   pub what : ScanKind
   pub from : List ℕ
   pub is : parsed ≡ Breaks what (Some name) from
 
 -- That is why the text has no form, and where.
-abbrev pub IsBroken : ℕ → List ℕ → TextFault → Parsed → Type 0
+abbrev pub IsBroken : ℕ → List ℕ → TextFault → ParsedTree → Type 0
 IsBroken limit text (Read what place) parsed = (place ≤ limit) × (parsed ≡ Breaks what None (drop place text))
 IsBroken limit text (Name place) parsed = (place ≤ limit) × BreaksBehind (drop place text) parsed
 IsBroken limit text (Left place) parsed = ⊥
@@ -160,7 +156,7 @@ pub record GoesOn (limit : ℕ) (trees : List Tree) (frames : List Frame) (next 
   pub mode_within : IsModeWithin limit next
 
 -- What is read so far, with any rest behind it, is this form, or goes on with the rest.
-abbrev pub Leads : ℕ → (List ℕ → List ℕ → Parsed) → List Tree → List Frame → Step → Type 0
+abbrev pub Leads : ℕ → (List ℕ → List ℕ → ParsedTree) → List Tree → List Frame → Step → Type 0
 Leads limit read trees frames (Done whole) =
     IsKnownForm trees whole × IsFormWithin limit whole × ((text rest : List ℕ) → read text rest ≡ Parses (formed trees text whole) rest)
 Leads limit read trees frames (Goes next) =
@@ -172,9 +168,9 @@ Settles old before read new after step =
     (limit : ℕ) → AreWithin limit before → IsFormWithin limit read → Leads limit (λ text rest. resumed old text before (Parses (formed old text read) rest)) new after step
 
 -- what is read where a form stands, with this rest behind it
-abbrev pub at_form : Mode → Named → List ℕ → Parsed
+abbrev pub at_form : Mode → Named → List ℕ → ParsedTree
 at_form (mode.Form depth) read rest = Parses read rest
-at_form (mode.List depth begun) read rest = with_rest list_from depth (Parses read rest)
+at_form (mode.List depth begun) read rest = with_rest clvm (list_from clvm) depth [] (Parses read rest)
 at_form (mode.Close last place) read rest = Parses read rest
 
 -- After a form that is awaited.

@@ -1,5 +1,5 @@
 -- What is to be printed of nodes. This project's own.
-use Rattle.std.specs.Prelude.{ℕ, List, [], ◌∷◌, ◌++◌, codes}
+use Rattle.std.specs.Prelude.{ℕ, List, [], ◌∷◌, ◌++◌}
 use Rattle.clvm_spec.specs.Tree.{Tree}
 use Rattle.clvm_spec.specs.Text as text
 use Rattle.clvm_tree.specs.Nodes.{tree_at, IsKnown}
@@ -11,17 +11,6 @@ abbrev pub position_of : Position → text.Position
 position_of Head = text.AsHead
 position_of Alone = text.Alone
 position_of Rest = text.AsRest
-
--- what a pair's text begins with there, and where its first stands
-abbrev pub opening : Position → List ℕ
-opening Head = codes "("
-opening Alone = codes "("
-opening Rest = codes " "
-
-abbrev pub first_of : Position → Position
-first_of Head = Head
-first_of Alone = Head
-first_of Rest = Alone
 
 -- the text of one that is pending
 abbrev pub text_of : List Tree → Pending → List ℕ

@@ -1,7 +1,8 @@
 -- What scanning answers. This project's own.
 use Rattle.std.specs.Prelude.{◌≡◌, List, length, ℕ}
 use Rattle.clvm_spec.specs.Tree.{Tree}
-use Rattle.clvm_spec.specs.Text.{Parses, form_of, Unreadable, Unnamed, LeftOver, scanned}
+use Rattle.clvm_spec.specs.Grammar.{Parses}
+use Rattle.clvm_spec.specs.Text.{form_of, Unreadable, Unnamed, LeftOver, scanned}
 use Rattle.text_tokens.specs.Ends.{IsEnd}
 use Rattle.clvm_text.specs.Forms.{formed, IsKnownForm, IsFormWithin}
 use Rattle.clvm_text.specs.declared.TextFault.{TextFault}

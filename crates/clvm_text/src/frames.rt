@@ -62,10 +62,9 @@ pub(crate) enum Step {
 fn told_by(frame: Frame, kind: ScanKind) -> Option<TextFault>
     ensures { result ≡ told_by frame kind }
 {
-    match (frame, kind) {
-        (Frame::Element(Form::Unknown(name)), _) => Some(TextFault::Name(name)),
-        (Frame::Dot(_), ScanKind::Deep) => None,
-        (Frame::Dot(dot), _) => Some(TextFault::Read(ScanKind::Dot, dot)),
+    match frame {
+        Frame::Element(Form::Unknown(name)) => Some(TextFault::Name(name)),
+        Frame::Dot(dot) if kind.is_dots_fault() => Some(TextFault::Read(ScanKind::Dot, dot)),
         _ => None,
     }
 }

@@ -2,9 +2,9 @@ ghost use Rattle.std.specs.Prelude.{◌≡◌, ◌+◌, ◌<◌, ◌≤◌, ◌+
 ghost use Rattle.hex.specs.Hex.{encode_lower};
 ghost use Rattle.clvm_spec.specs.Tree.{Tree, Atom};
 ghost use Rattle.clvm_spec.specs.Numbers.{number};
-ghost use Rattle.clvm_spec.specs.Text.{is_short_number, bytes_text, text_at, printed};
+ghost use Rattle.clvm_spec.specs.Text.{is_short_number, bytes_text, opening, first_of, text_at, printed};
 ghost use Rattle.clvm_tree.specs.Nodes.{tree_at, IsKnown};
-ghost use Rattle.clvm_text.specs.Positions.{position_of, opening, first_of, texts, AreKnown};
+ghost use Rattle.clvm_text.specs.Positions.{position_of, texts, AreKnown};
 
 use case_table::name_of;
 use clvm_spec::shortest_bytes;
@@ -136,7 +136,7 @@ fn push_atom(
 
 // What a pair's text begins with.
 fn opening(position: Position) -> &'static str
-    ensures { result.now ≡ opening position }
+    ensures { result.now ≡ opening (position_of position) }
 {
     match position {
         Position::Rest => " ",
@@ -146,7 +146,7 @@ fn opening(position: Position) -> &'static str
 
 // Where a pair's first stands.
 fn first_of(position: Position) -> Position
-    ensures { result ≡ first_of position }
+    ensures { position_of result ≡ first_of (position_of position) }
 {
     match position {
         Position::Rest => Position::Alone,

@@ -1,19 +1,20 @@
 -- What is read leaves nothing of its text.
 use Rattle.std.specs.Prelude.{Result, Ok, Err}
-use Rattle.std.proofs.Common.{◌≡◌, ℕ, zero, suc, ◌+◌, ◌-◌, ◌<◌, ◌≤◌, ◌==◌, Bool, true, false, not, cond, ◌||◌, nat_lt, List, [], ◌∷◌, ◌++◌, length, take, drop, refl, sym, ◌∙◌, ap, subst, arith, length-append}
+use Rattle.std.proofs.Common.{◌≡◌, ℕ, zero, suc, ◌+◌, ◌-◌, ◌<◌, ◌≤◌, ◌==◌, Bool, true, false, not, cond, ◌||◌, nat_lt, List, [], ◌∷◌, ◌++◌, length, take, drop, None, refl, sym, ◌∙◌, ap, subst, arith, length-append}
 use Rattle.std.specs.List.{prefix_len}
 use Rattle.std.proofs.lemmas.Bool.Decides.{nat_tests}
 use Rattle.clvm_spec.specs.declared.scan_kind.ScanKind.{ScanKind}
-use Rattle.clvm_spec.specs.declared.scan_kind.ScanKind.TheVariants.{End, Close, Dot, Deep, Text, Byte, Hex, Number}
+use Rattle.clvm_spec.specs.declared.scan_kind.ScanKind.TheVariants.{Dot, Deep, Text, Byte}
 use Rattle.clvm_spec.specs.Tokens.{Token, Opening, Closing, Point, Literal, Front, Took, Unread, AtEnd, is_separator, is_plain, is_word_byte, without_blanks, word_token, word_front, word_at, quoted_of, quoted, at_word, at_quote, at_closing, at_opening, at_front, token_of}
 use Rattle.clvm_spec.specs.Tokens as tokens
 use Rattle.clvm_spec.proofs.ScanLaws.{Less, less_front}
 use Rattle.lisp_read.specs.declared.place.Place.{Place}
-use Rattle.lisp_read.specs.Forms.{Form, Atom, Symbol, Pair}
-use Rattle.lisp_read.specs.Grammar.{place_in, Places, Parsed, Parses, Breaks, if_parsed, InList, opened, form_at, closed, fault_behind_dot, behind_dot, then_closed, with_rest, list_at, list_within, Read, Reads, Unreadable, with_form, with_forms, forms_at}
-use Rattle.lisp_read.specs.FromHere.{list_from, forms_from, after}
-use Rattle.lisp_read.specs.Laws.{LeavesNothing}
-use Rattle.lisp_read.proofs.BoundLaws.{Shrinks, shrinks_form, shrinks_from, list_step, forms_step, forms_start}
+use Rattle.lisp_read.specs.Forms.{Form, Atom, Symbol}
+use Rattle.clvm_spec.specs.Grammar.{Language, Parses, Breaks, InList, is_dots_fault, closed, last_form, opened, form_at, behind, with_rest, list_at, list_within, list_from}
+use Rattle.clvm_spec.proofs.GrammarLaws.{Shrinks, shrinks_form, shrinks_from, list_step}
+use Rattle.lisp_read.specs.Grammar.{place_in, Places, chialisp, ParsedForm, Read, Reads, Unreadable, with_form, with_forms, forms_at, forms_from}
+use Rattle.lisp_read.specs.Laws.{after, LeavesNothing}
+use Rattle.lisp_read.proofs.BoundLaws.{forms_step, forms_start}
 
 module _ (lines : List ℕ) where
   -- the lines behind a text
@@ -134,94 +135,91 @@ module _ (lines : List ℕ) where
   -- ---- what is parsed
 
   module _ (there beyond : Places) (same : (from : List ℕ) → beyond (from ++ behind_it) ≡ there from) where
-    -- What is parsed in the text is parsed with the lines behind it.
-    abbrev Keeps : Parsed → Parsed → Type 0
-    Keeps (Parses form rest) parsed = parsed ≡ Parses form (rest ++ behind_it)
-    Keeps (Breaks kind at) parsed = Unit {0}
+    abbrev here : Language Form Place
+    here = chialisp there
 
-    abbrev AllKeep : InList → InList → Type 0
+    abbrev longer : Language Form Place
+    longer = chialisp beyond
+
+    -- What is parsed in the text is parsed with the lines behind it.
+    abbrev Keeps : ParsedForm → ParsedForm → Type 0
+    Keeps (Parses form rest) parsed = parsed ≡ Parses form (rest ++ behind_it)
+    Keeps (Breaks kind unknown at) parsed = Unit {0}
+
+    abbrev AllKeep : InList Form Place → InList Form Place → Type 0
     AllKeep a b = (depth : ℕ) (place : Place) (begun : Bool) (text : List ℕ) → Keeps (a depth place begun text) (b depth place begun (text ++ behind_it))
 
-    keeps_if : (test : Bool) (f g f' g' : Parsed) → Keeps f f' → Keeps g g' → Keeps (cond test f g) (cond test f' g')
+    keeps_if : (test : Bool) (f g f' g' : ParsedForm) → Keeps f f' → Keeps g g' → Keeps (cond test f g) (cond test f' g')
     keeps_if true f g f' g' hf hg = hf
     keeps_if false f g f' g' hf hg = hg
 
-    keeps_opened : (a b : InList) (depth : ℕ) (from rest : List ℕ) → AllKeep a b → Keeps (opened there a depth from rest) (opened beyond b depth (from ++ behind_it) (rest ++ behind_it))
+    keeps_opened : (a b : InList Form Place) (depth : ℕ) (from rest : List ℕ) → AllKeep a b → Keeps (opened here a depth from rest) (opened longer b depth (from ++ behind_it) (rest ++ behind_it))
     keeps_opened a b depth from rest all =
-        keeps_if (nat_lt depth 1024) (a (suc depth) (there from) false rest) (Breaks Deep (there from).at) (b (suc depth) (beyond (from ++ behind_it)) false (rest ++ behind_it)) (Breaks Deep (beyond (from ++ behind_it)).at)
+        keeps_if (nat_lt depth 1024) (a (suc depth) (there from) false rest) (Breaks Deep None (there from)) (b (suc depth) (beyond (from ++ behind_it)) false (rest ++ behind_it)) (Breaks Deep None (beyond (from ++ behind_it)))
         (subst (λ p. Keeps (a (suc depth) (there from) false rest) (b (suc depth) p false (rest ++ behind_it))) (sym (same from)) (all (suc depth) (there from) false rest)) tt
 
-    keeps_form : (a b : InList) (depth : ℕ) (front other : Front) → AllKeep a b → Follows front other → Keeps (form_at there a depth front) (form_at beyond b depth other)
+    keeps_form : (a b : InList Form Place) (depth : ℕ) (front other : Front) → AllKeep a b → Follows front other → Keeps (form_at here a depth front) (form_at longer b depth other)
     keeps_form a b depth AtEnd other all h = tt
     keeps_form a b depth (Unread kind from) other all h = tt
     keeps_form a b depth (Took Closing from rest) other all h = tt
     keeps_form a b depth (Took Point from rest) other all h = tt
-    keeps_form a b depth (Took (Literal bytes) from rest) other all h = ap (form_at beyond b depth) h ∙ ap (λ p. Parses (Atom p bytes) (rest ++ behind_it)) (same from)
-    keeps_form a b depth (Took (tokens.Symbol name) from rest) other all h = ap (form_at beyond b depth) h ∙ ap (λ p. Parses (Symbol p name) (rest ++ behind_it)) (same from)
-    keeps_form a b depth (Took Opening from rest) other all h = subst (λ f. Keeps (opened there a depth from rest) (form_at beyond b depth f)) (sym h) (keeps_opened a b depth from rest all)
+    keeps_form a b depth (Took (Literal bytes) from rest) other all h = ap (form_at longer b depth) h ∙ ap (λ p. Parses (Atom p bytes) (rest ++ behind_it)) (same from)
+    keeps_form a b depth (Took (tokens.Symbol name) from rest) other all h = ap (form_at longer b depth) h ∙ ap (λ p. Parses (Symbol p name) (rest ++ behind_it)) (same from)
+    keeps_form a b depth (Took Opening from rest) other all h = subst (λ f. Keeps (opened here a depth from rest) (form_at longer b depth f)) (sym h) (keeps_opened a b depth from rest all)
 
-    keeps_closed : (form : Form) (front other : Front) → Follows front other → Keeps (closed there form front) (closed beyond form other)
-    keeps_closed form AtEnd other h = tt
-    keeps_closed form (Unread kind from) other h = tt
-    keeps_closed form (Took Closing from rest) other h = ap (closed beyond form) h
-    keeps_closed form (Took Point from rest) other h = tt
-    keeps_closed form (Took (Literal bytes) from rest) other h = tt
-    keeps_closed form (Took (tokens.Symbol name) from rest) other h = tt
-    keeps_closed form (Took Opening from rest) other h = tt
+    keeps_closed : (dot other_dot : Place) (form : Form) (front other : Front) → Follows front other → Keeps (closed dot form front) (closed other_dot form other)
+    keeps_closed dot other_dot form AtEnd other h = tt
+    keeps_closed dot other_dot form (Unread kind from) other h = tt
+    keeps_closed dot other_dot form (Took Closing from rest) other h = ap (closed other_dot form) h
+    keeps_closed dot other_dot form (Took Point from rest) other h = tt
+    keeps_closed dot other_dot form (Took (Literal bytes) from rest) other h = tt
+    keeps_closed dot other_dot form (Took (tokens.Symbol name) from rest) other h = tt
+    keeps_closed dot other_dot form (Took Opening from rest) other h = tt
 
-    keeps_then : (parsed other : Parsed) → Keeps parsed other → Keeps (then_closed there parsed) (then_closed beyond other)
-    keeps_then (Parses form rest) other h = subst (λ p. Keeps (closed there form (token_of rest)) (then_closed beyond p)) (sym h) (keeps_closed form (token_of rest) (token_of (rest ++ behind_it)) (follows rest))
-    keeps_then (Breaks kind at) other h = tt
+    keeps_fault : (test : Bool) (dot : Place) (parsed : ParsedForm) (other : ParsedForm) → Keeps parsed other → (Keeps (Breaks Dot None dot) other → Keeps (cond test (Breaks Dot None dot) parsed) other)
+    keeps_fault true dot parsed other h k = k
+    keeps_fault false dot parsed other h k = h
 
-    keeps_fault : (dot : ℕ) (kind : ScanKind) (at : ℕ) (other : Parsed) → Keeps (fault_behind_dot dot kind at) other
-    keeps_fault dot End at other = tt
-    keeps_fault dot Close at other = tt
-    keeps_fault dot Dot at other = tt
-    keeps_fault dot Hex at other = tt
-    keeps_fault dot Number at other = tt
-    keeps_fault dot Text at other = tt
-    keeps_fault dot Byte at other = tt
-    keeps_fault dot Deep at other = tt
+    keeps_last : (dot other_dot : Place) (parsed other : ParsedForm) → Keeps parsed other → Keeps (last_form dot parsed) (last_form other_dot other)
+    keeps_last dot other_dot (Parses form rest) other h =
+        subst (λ p. Keeps (closed dot form (token_of rest)) (last_form other_dot p)) (sym h) (keeps_closed dot other_dot form (token_of rest) (token_of (rest ++ behind_it)) (follows rest))
+    keeps_last dot other_dot (Breaks kind unknown at) other h = keeps_fault (is_dots_fault kind) dot (Breaks kind unknown at) (last_form other_dot other) tt tt
 
-    keeps_dot : (dot other_dot : ℕ) (parsed other : Parsed) → Keeps parsed other → Keeps (behind_dot dot parsed) (behind_dot other_dot other)
-    keeps_dot dot other_dot (Parses form rest) other h = ap (behind_dot other_dot) h
-    keeps_dot dot other_dot (Breaks kind at) other h = keeps_fault dot kind at (behind_dot other_dot other)
+    keeps_behind : (place : Place) (form : Form) (parsed other : ParsedForm) → Keeps parsed other → Keeps (behind here place form parsed) (behind longer place form other)
+    keeps_behind place form (Parses forms rest) other h = ap (behind longer place form) h
+    keeps_behind place form (Breaks kind unknown at) other h = tt
 
-    keeps_pair : (place : Place) (form : Form) (parsed other : Parsed) → Keeps parsed other → Keeps (if_parsed parsed (λ forms more. Parses (Pair place form forms) more)) (if_parsed other (λ forms more. Parses (Pair place form forms) more))
-    keeps_pair place form (Parses forms rest) other h = ap (λ p. if_parsed p (λ forms more. Parses (Pair place form forms) more)) h
-    keeps_pair place form (Breaks kind at) other h = tt
-
-    keeps_rest : (a b : InList) (depth : ℕ) (place : Place) (first other : Parsed) → AllKeep a b → Keeps first other → Keeps (with_rest a depth place first) (with_rest b depth place other)
+    keeps_rest : (a b : InList Form Place) (depth : ℕ) (place : Place) (first other : ParsedForm) → AllKeep a b → Keeps first other → Keeps (with_rest here a depth place first) (with_rest longer b depth place other)
     keeps_rest a b depth place (Parses form rest) other all h =
-        subst (λ p. Keeps (with_rest a depth place (Parses form rest)) (with_rest b depth place p)) (sym h)
-        (keeps_pair place form (a depth place true rest) (b depth place true (rest ++ behind_it)) (all depth place true rest))
-    keeps_rest a b depth place (Breaks kind at) other all h = tt
+        subst (λ p. Keeps (with_rest here a depth place (Parses form rest)) (with_rest longer b depth place p)) (sym h)
+        (keeps_behind place form (a depth place true rest) (b depth place true (rest ++ behind_it)) (all depth place true rest))
+    keeps_rest a b depth place (Breaks kind unknown at) other all h = tt
 
-    keeps_list : (a b : InList) (depth : ℕ) (place : Place) (begun : Bool) (front other : Front) → AllKeep a b → Follows front other → Keeps (list_at there a depth place begun front) (list_at beyond b depth place begun other)
+    keeps_list : (a b : InList Form Place) (depth : ℕ) (place : Place) (begun : Bool) (front other : Front) → AllKeep a b → Follows front other → Keeps (list_at here a depth place begun front) (list_at longer b depth place begun other)
     keeps_list a b depth place begun AtEnd other all h = tt
     keeps_list a b depth place begun (Unread kind from) other all h = tt
-    keeps_list a b depth place begun (Took Closing from rest) other all h = ap (list_at beyond b depth place begun) h
+    keeps_list a b depth place begun (Took Closing from rest) other all h = ap (list_at longer b depth place begun) h
     keeps_list a b depth place true (Took Point from rest) other all h =
-        subst (λ f. Keeps (list_at there a depth place true (Took Point from rest)) (list_at beyond b depth place true f)) (sym h)
-        (keeps_dot (there from).at (beyond (from ++ behind_it)).at (then_closed there (form_at there a depth (token_of rest))) (then_closed beyond (form_at beyond b depth (token_of (rest ++ behind_it))))
-        (keeps_then (form_at there a depth (token_of rest)) (form_at beyond b depth (token_of (rest ++ behind_it))) (keeps_form a b depth (token_of rest) (token_of (rest ++ behind_it)) all (follows rest))))
+        subst (λ f. Keeps (list_at here a depth place true (Took Point from rest)) (list_at longer b depth place true f)) (sym h)
+        (keeps_last (there from) (beyond (from ++ behind_it)) (form_at here a depth (token_of rest)) (form_at longer b depth (token_of (rest ++ behind_it)))
+        (keeps_form a b depth (token_of rest) (token_of (rest ++ behind_it)) all (follows rest)))
     keeps_list a b depth place false (Took Point from rest) other all h = tt
     keeps_list a b depth place begun (Took (Literal bytes) from rest) other all h =
-        subst (λ f. Keeps (list_at there a depth place begun (Took (Literal bytes) from rest)) (list_at beyond b depth place begun f)) (sym h)
+        subst (λ f. Keeps (list_at here a depth place begun (Took (Literal bytes) from rest)) (list_at longer b depth place begun f)) (sym h)
         (keeps_rest a b depth place (Parses (Atom (there from) bytes) rest) (Parses (Atom (beyond (from ++ behind_it)) bytes) (rest ++ behind_it)) all (ap (λ p. Parses (Atom p bytes) (rest ++ behind_it)) (same from)))
     keeps_list a b depth place begun (Took (tokens.Symbol name) from rest) other all h =
-        subst (λ f. Keeps (list_at there a depth place begun (Took (tokens.Symbol name) from rest)) (list_at beyond b depth place begun f)) (sym h)
+        subst (λ f. Keeps (list_at here a depth place begun (Took (tokens.Symbol name) from rest)) (list_at longer b depth place begun f)) (sym h)
         (keeps_rest a b depth place (Parses (Symbol (there from) name) rest) (Parses (Symbol (beyond (from ++ behind_it)) name) (rest ++ behind_it)) all (ap (λ p. Parses (Symbol p name) (rest ++ behind_it)) (same from)))
     keeps_list a b depth place begun (Took Opening from rest) other all h =
-        subst (λ f. Keeps (list_at there a depth place begun (Took Opening from rest)) (list_at beyond b depth place begun f)) (sym h)
-        (keeps_rest a b depth place (opened there a depth from rest) (opened beyond b depth (from ++ behind_it) (rest ++ behind_it)) all (keeps_opened a b depth from rest all))
+        subst (λ f. Keeps (list_at here a depth place begun (Took Opening from rest)) (list_at longer b depth place begun f)) (sym h)
+        (keeps_rest a b depth place (opened here a depth from rest) (opened longer b depth (from ++ behind_it) (rest ++ behind_it)) all (keeps_opened a b depth from rest all))
 
     -- The number that bounds the recursion may be that of the lines too.
-    keeps_within : (bound : ℕ) → AllKeep (list_within there bound) (list_from beyond)
+    keeps_within : (bound : ℕ) → AllKeep (list_within here bound) (list_from longer)
     keeps_within zero depth place begun text = tt
     keeps_within (suc bound) depth place begun text =
-        subst (λ p. Keeps (list_at there (list_within there bound) depth place begun (token_of text)) p) (sym (list_step beyond depth place begun (text ++ behind_it)))
-        (keeps_list (list_within there bound) (list_from beyond) depth place begun (token_of text) (token_of (text ++ behind_it)) (keeps_within bound) (follows text))
+        subst (λ p. Keeps (list_at here (list_within here bound) depth place begun (token_of text)) p) (sym (list_step longer depth place begun (text ++ behind_it)))
+        (keeps_list (list_within here bound) (list_from longer) depth place begun (token_of text) (token_of (text ++ behind_it)) (keeps_within bound) (follows text))
 
     -- ---- the forms
 
@@ -233,28 +231,28 @@ module _ (lines : List ℕ) where
     prefix_with form (Reads forms) other h = ap (with_form form) h
     prefix_with form (Unreadable kind at) other h = tt
 
-    prefix_forms : (n : ℕ) (f g : List ℕ → Read) (parsed other : Parsed) → ((rest : List ℕ) → length rest < n → Prefixes (f rest) (g (rest ++ behind_it))) → Shrinks n parsed → Keeps parsed other → Prefixes (with_forms f parsed) (with_forms g other)
+    prefix_forms : (n : ℕ) (f g : List ℕ → Read) (parsed other : ParsedForm) → ((rest : List ℕ) → length rest < n → Prefixes (f rest) (g (rest ++ behind_it))) → Shrinks n parsed → Keeps parsed other → Prefixes (with_forms f parsed) (with_forms g other)
     prefix_forms n f g (Parses form rest) other all less h =
         subst (λ p. Prefixes (with_form form (f rest)) (with_forms g p)) (sym h) (prefix_with form (f rest) (g (rest ++ behind_it)) (all rest less))
-    prefix_forms n f g (Breaks kind at) other all less h = tt
+    prefix_forms n f g (Breaks kind unknown at) other all less h = tt
 
-    all_keep : AllKeep (list_from there) (list_from beyond)
+    all_keep : AllKeep (list_from here) (list_from longer)
     all_keep depth place begun text = keeps_within (suc (length text)) depth place begun text
 
     prefix_at : (n : ℕ) (front other : Front) → ((rest : List ℕ) → length rest < n → Prefixes (forms_from there rest) (forms_from beyond (rest ++ behind_it))) → Less n front → Follows front other →
-        Prefixes (forms_at there (list_from there) (forms_from there) front) (forms_at beyond (list_from beyond) (forms_from beyond) other)
-    prefix_at n AtEnd other more less h = ap (forms_at beyond (list_from beyond) (forms_from beyond)) h ∙ sym (forms_step beyond lines)
+        Prefixes (forms_at there (forms_from there) front) (forms_at beyond (forms_from beyond) other)
+    prefix_at n AtEnd other more less h = ap (forms_at beyond (forms_from beyond)) h ∙ sym (forms_step beyond lines)
     prefix_at n (Unread kind from) other more less h = tt
     prefix_at n (Took token from rest) other more less h =
-        subst (λ t. Prefixes (forms_at there (list_from there) (forms_from there) (Took token from rest)) (forms_at beyond (list_from beyond) (forms_from beyond) t)) (sym h)
-        (prefix_forms n (forms_from there) (forms_from beyond) (form_at there (list_from there) 0 (Took token from rest)) (form_at beyond (list_from beyond) 0 (Took token (from ++ behind_it) (rest ++ behind_it))) more
-        (shrinks_form there (list_from there) n 0 (Took token from rest) (shrinks_from there) less)
-        (keeps_form (list_from there) (list_from beyond) 0 (Took token from rest) (Took token (from ++ behind_it) (rest ++ behind_it)) all_keep refl))
+        subst (λ t. Prefixes (forms_at there (forms_from there) (Took token from rest)) (forms_at beyond (forms_from beyond) t)) (sym h)
+        (prefix_forms n (forms_from there) (forms_from beyond) (form_at here (list_from here) 0 (Took token from rest)) (form_at longer (list_from longer) 0 (Took token (from ++ behind_it) (rest ++ behind_it))) more
+        (shrinks_form here (list_from here) n 0 (Took token from rest) (shrinks_from here) less)
+        (keeps_form (list_from here) (list_from longer) 0 (Took token from rest) (Took token (from ++ behind_it) (rest ++ behind_it)) all_keep refl))
 
     step_from : (text : List ℕ) → ((rest : List ℕ) → length rest < length text → Prefixes (forms_from there rest) (forms_from beyond (rest ++ behind_it))) → Prefixes (forms_from there text) (forms_from beyond (text ++ behind_it))
     step_from text more =
         subst (λ r. Prefixes r (forms_from beyond (text ++ behind_it))) (sym (forms_step there text))
-        (subst (Prefixes (forms_at there (list_from there) (forms_from there) (token_of text))) (sym (forms_step beyond (text ++ behind_it)))
+        (subst (Prefixes (forms_at there (forms_from there) (token_of text))) (sym (forms_step beyond (text ++ behind_it)))
         (prefix_at (length text) (token_of text) (token_of (text ++ behind_it)) more (less_front text (length text) (token_of text) refl (omega arith)) (follows text)))
 
     prefix_from : (bound : ℕ) (text : List ℕ) → length text ≤ bound → Prefixes (forms_from there text) (forms_from beyond (text ++ behind_it))

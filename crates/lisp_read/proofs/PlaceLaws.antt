@@ -1,16 +1,16 @@
 -- Each form has the place of its first byte.
-use Rattle.std.proofs.Common.{◌≡◌, ℕ, zero, suc, ◌+◌, ◌-◌, ◌<◌, ◌==◌, Bool, true, false, not, cond, ◌||◌, nat_lt, List, [], ◌∷◌, length, drop, refl, sym, ◌∙◌, ap, subst, arith}
+use Rattle.std.proofs.Common.{◌≡◌, ℕ, zero, suc, ◌+◌, ◌-◌, ◌<◌, ◌==◌, Bool, true, false, not, cond, ◌||◌, nat_lt, List, [], ◌∷◌, length, drop, None, refl, sym, ◌∙◌, ap, subst, arith}
 use Rattle.std.proofs.lemmas.List.{drop-drop}
-use Rattle.clvm_spec.specs.declared.scan_kind.ScanKind.{ScanKind}
-use Rattle.clvm_spec.specs.declared.scan_kind.ScanKind.TheVariants.{End, Close, Dot, Deep, Text, Byte, Hex, Number}
+use Rattle.clvm_spec.specs.declared.scan_kind.ScanKind.TheVariants.{Dot, Deep}
 use Rattle.clvm_spec.specs.Tokens.{Token, Opening, Closing, Point, Literal, Front, Took, Unread, AtEnd, is_separator, without_blanks, at_front, token_of}
 use Rattle.clvm_spec.specs.Tokens as tokens
 use Rattle.clvm_spec.proofs.ScanLaws.{Stands, stands}
 use Rattle.text_tokens.specs.Ends.{IsEnd, AreEnds}
 use Rattle.text_tokens.proofs.EndLaws.{ends}
 use Rattle.lisp_read.specs.declared.place.Place.{Place}
-use Rattle.lisp_read.specs.Forms.{Form, Atom, Symbol, Pair}
-use Rattle.lisp_read.specs.Grammar.{place_in, Parsed, Parses, Breaks, if_parsed, InList, opened, form_at, closed, fault_behind_dot, behind_dot, then_closed, with_rest, list_at, list_within, Read, Reads, Unreadable, with_form, with_forms, forms_at, forms_within, forms_of}
+use Rattle.lisp_read.specs.Forms.{Form, Atom, Symbol}
+use Rattle.clvm_spec.specs.Grammar.{Language, Parses, Breaks, InList, is_dots_fault, closed, last_form, opened, form_at, behind, with_rest, list_at, list_within, list_from}
+use Rattle.lisp_read.specs.Grammar.{place_in, chialisp, ParsedForm, Read, Reads, Unreadable, with_form, with_forms, forms_at, forms_within, forms_of}
 use Rattle.lisp_read.specs.Laws.{IsTokenAt, is_token, is_list, IsPlaced, ArePlaced, PlacesAreFirstBytes}
 
 -- ---- tokens
@@ -66,21 +66,24 @@ module _ (number : ℕ) (text : List ℕ) where
 
   -- ---- what is parsed
 
-  abbrev IsGood : Parsed → Type 0
-  IsGood (Parses form rest) = IsPlaced number text form × IsEnd rest text
-  IsGood (Breaks kind at) = Unit {0}
+  abbrev language : Language Form Place
+  language = chialisp there
 
-  abbrev AllGood : InList → Type 0
+  abbrev IsGood : ParsedForm → Type 0
+  IsGood (Parses form rest) = IsPlaced number text form × IsEnd rest text
+  IsGood (Breaks kind unknown at) = Unit {0}
+
+  abbrev AllGood : InList Form Place → Type 0
   AllGood list = (depth : ℕ) (place : Place) (begun : Bool) (more : List ℕ) → IsTokenAt number text place Opening → IsEnd more text → IsGood (list depth place begun more)
 
-  good_if : (test : Bool) (f g : Parsed) → IsGood f → IsGood g → IsGood (cond test f g)
+  good_if : (test : Bool) (f g : ParsedForm) → IsGood f → IsGood g → IsGood (cond test f g)
   good_if true f g hf hg = hf
   good_if false f g hf hg = hg
 
-  good_opened : (list : InList) (depth : ℕ) (from rest : List ℕ) → AllGood list → IsTokenAt number text (there from) Opening → IsEnd rest text → IsGood (opened there list depth from rest)
-  good_opened list depth from rest all at end = good_if (nat_lt depth 1024) (list (suc depth) (there from) false rest) (Breaks Deep (there from).at) (all (suc depth) (there from) false rest at end) tt
+  good_opened : (list : InList Form Place) (depth : ℕ) (from rest : List ℕ) → AllGood list → IsTokenAt number text (there from) Opening → IsEnd rest text → IsGood (opened language list depth from rest)
+  good_opened list depth from rest all at end = good_if (nat_lt depth 1024) (list (suc depth) (there from) false rest) (Breaks Deep None (there from)) (all (suc depth) (there from) false rest at end) tt
 
-  good_form : (list : InList) (depth : ℕ) (front : Front) → AllGood list → IsGoodFront front → IsGood (form_at there list depth front)
+  good_form : (list : InList Form Place) (depth : ℕ) (front : Front) → AllGood list → IsGoodFront front → IsGood (form_at language list depth front)
   good_form list depth AtEnd all h = tt
   good_form list depth (Unread kind from) all h = tt
   good_form list depth (Took Closing from rest) all h = tt
@@ -89,56 +92,44 @@ module _ (number : ℕ) (text : List ℕ) where
   good_form list depth (Took (tokens.Symbol name) from rest) all h = (h.0, h.1)
   good_form list depth (Took Opening from rest) all h = good_opened list depth from rest all h.0 h.1
 
-  good_closed : (form : Form) (front : Front) → IsPlaced number text form → IsGoodFront front → IsGood (closed there form front)
-  good_closed form AtEnd f h = tt
-  good_closed form (Unread kind from) f h = tt
-  good_closed form (Took Closing from rest) f h = (f, h.1)
-  good_closed form (Took Point from rest) f h = tt
-  good_closed form (Took (Literal bytes) from rest) f h = tt
-  good_closed form (Took (tokens.Symbol name) from rest) f h = tt
-  good_closed form (Took Opening from rest) f h = tt
+  good_closed : (dot : Place) (form : Form) (front : Front) → IsPlaced number text form → IsGoodFront front → IsGood (closed dot form front)
+  good_closed dot form AtEnd f h = tt
+  good_closed dot form (Unread kind from) f h = tt
+  good_closed dot form (Took Closing from rest) f h = (f, h.1)
+  good_closed dot form (Took Point from rest) f h = tt
+  good_closed dot form (Took (Literal bytes) from rest) f h = tt
+  good_closed dot form (Took (tokens.Symbol name) from rest) f h = tt
+  good_closed dot form (Took Opening from rest) f h = tt
 
-  good_then : (parsed : Parsed) → IsGood parsed → IsGood (then_closed there parsed)
-  good_then (Parses form rest) h = good_closed form (token_of rest) h.0 (good_front rest h.1)
-  good_then (Breaks kind at) h = tt
+  good_last : (dot : Place) (parsed : ParsedForm) → IsGood parsed → IsGood (last_form dot parsed)
+  good_last dot (Parses form rest) h = good_closed dot form (token_of rest) h.0 (good_front rest h.1)
+  good_last dot (Breaks kind unknown at) h = good_if (is_dots_fault kind) (Breaks Dot None dot) (Breaks kind unknown at) tt tt
 
-  good_fault : (dot : ℕ) (kind : ScanKind) (at : ℕ) → IsGood (fault_behind_dot dot kind at)
-  good_fault dot End at = tt
-  good_fault dot Close at = tt
-  good_fault dot Dot at = tt
-  good_fault dot Hex at = tt
-  good_fault dot Number at = tt
-  good_fault dot Text at = tt
-  good_fault dot Byte at = tt
-  good_fault dot Deep at = tt
+  good_behind : (place : Place) (form : Form) (parsed : ParsedForm) → IsTokenAt number text place Opening → IsPlaced number text form → IsGood parsed → IsGood (behind language place form parsed)
+  good_behind place form (Parses forms more) at f h = ((at, f, h.0), h.1)
+  good_behind place form (Breaks kind unknown k) at f h = tt
 
-  good_dot : (dot : ℕ) (parsed : Parsed) → IsGood parsed → IsGood (behind_dot dot parsed)
-  good_dot dot (Parses form rest) h = h
-  good_dot dot (Breaks kind at) h = good_fault dot kind at
+  good_rest : (list : InList Form Place) (depth : ℕ) (place : Place) (first : ParsedForm) → AllGood list → IsTokenAt number text place Opening → IsGood first → IsGood (with_rest language list depth place first)
+  good_rest list depth place (Parses form rest) all at h = good_behind place form (list depth place true rest) at h.0 (all depth place true rest at h.1)
+  good_rest list depth place (Breaks kind unknown k) all at h = tt
 
-  good_pair : (place : Place) (form : Form) (parsed : Parsed) → IsTokenAt number text place Opening → IsPlaced number text form → IsGood parsed → IsGood (if_parsed parsed (λ forms more. Parses (Pair place form forms) more))
-  good_pair place form (Parses forms more) at f h = ((at, f, h.0), h.1)
-  good_pair place form (Breaks kind k) at f h = tt
-
-  good_rest : (list : InList) (depth : ℕ) (place : Place) (first : Parsed) → AllGood list → IsTokenAt number text place Opening → IsGood first → IsGood (with_rest list depth place first)
-  good_rest list depth place (Parses form rest) all at h = good_pair place form (list depth place true rest) at h.0 (all depth place true rest at h.1)
-  good_rest list depth place (Breaks kind k) all at h = tt
-
-  good_list : (list : InList) (depth : ℕ) (place : Place) (begun : Bool) (front : Front) → AllGood list → IsTokenAt number text place Opening → IsGoodFront front → IsGood (list_at there list depth place begun front)
+  good_list : (list : InList Form Place) (depth : ℕ) (place : Place) (begun : Bool) (front : Front) → AllGood list → IsTokenAt number text place Opening → IsGoodFront front → IsGood (list_at language list depth place begun front)
   good_list list depth place begun AtEnd all at h = tt
   good_list list depth place begun (Unread kind from) all at h = tt
   good_list list depth place begun (Took Closing from rest) all at h = (is_list at refl, h.1)
   good_list list depth place true (Took Point from rest) all at h =
-      good_dot (there from).at (then_closed there (form_at there list depth (token_of rest)))
-      (good_then (form_at there list depth (token_of rest)) (good_form list depth (token_of rest) all (good_front rest h.1)))
+      good_last (there from) (form_at language list depth (token_of rest)) (good_form list depth (token_of rest) all (good_front rest h.1))
   good_list list depth place false (Took Point from rest) all at h = tt
   good_list list depth place begun (Took (Literal bytes) from rest) all at h = good_rest list depth place (Parses (Atom (there from) bytes) rest) all at (is_token h.0, h.1)
   good_list list depth place begun (Took (tokens.Symbol name) from rest) all at h = good_rest list depth place (Parses (Symbol (there from) name) rest) all at (h.0, h.1)
-  good_list list depth place begun (Took Opening from rest) all at h = good_rest list depth place (opened there list depth from rest) all at (good_opened list depth from rest all h.0 h.1)
+  good_list list depth place begun (Took Opening from rest) all at h = good_rest list depth place (opened language list depth from rest) all at (good_opened list depth from rest all h.0 h.1)
 
-  good_within : (bound : ℕ) → AllGood (list_within there bound)
+  good_within : (bound : ℕ) → AllGood (list_within language bound)
   good_within zero depth place begun more at end = tt
-  good_within (suc bound) depth place begun more at end = good_list (list_within there bound) depth place begun (token_of more) (good_within bound) at (good_front more end)
+  good_within (suc bound) depth place begun more at end = good_list (list_within language bound) depth place begun (token_of more) (good_within bound) at (good_front more end)
+
+  good_from : AllGood (list_from language)
+  good_from depth place begun more at end = good_within (suc (length more)) depth place begun more at end
 
   -- ---- the forms
 
@@ -150,18 +141,19 @@ module _ (number : ℕ) (text : List ℕ) where
   good_with form (Reads forms) f h = (f, h)
   good_with form (Unreadable kind at) f h = tt
 
-  good_forms : (more : List ℕ → Read) (parsed : Parsed) → ((rest : List ℕ) → IsEnd rest text → AreGood (more rest)) → IsGood parsed → AreGood (with_forms more parsed)
+  good_forms : (more : List ℕ → Read) (parsed : ParsedForm) → ((rest : List ℕ) → IsEnd rest text → AreGood (more rest)) → IsGood parsed → AreGood (with_forms more parsed)
   good_forms more (Parses form rest) all h = good_with form (more rest) h.0 (all rest h.1)
-  good_forms more (Breaks kind at) all h = tt
+  good_forms more (Breaks kind unknown at) all h = tt
 
-  good_at : (list : InList) (more : List ℕ → Read) (front : Front) → AllGood list → ((rest : List ℕ) → IsEnd rest text → AreGood (more rest)) → IsGoodFront front → AreGood (forms_at there list more front)
-  good_at list more AtEnd all rest h = tt
-  good_at list more (Unread kind from) all rest h = tt
-  good_at list more (Took token from behind) all rest h = good_forms more (form_at there list 0 (Took token from behind)) rest (good_form list 0 (Took token from behind) all h)
+  good_at : (more : List ℕ → Read) (front : Front) → ((rest : List ℕ) → IsEnd rest text → AreGood (more rest)) → IsGoodFront front → AreGood (forms_at there more front)
+  good_at more AtEnd rest h = tt
+  good_at more (Unread kind from) rest h = tt
+  good_at more (Took token from behind_it) rest h =
+      good_forms more (form_at language (list_from language) 0 (Took token from behind_it)) rest (good_form (list_from language) 0 (Took token from behind_it) good_from h)
 
-  good_bound : (list : InList) (bound : ℕ) (more : List ℕ) → AllGood list → IsEnd more text → AreGood (forms_within there list bound more)
-  good_bound list zero more all end = tt
-  good_bound list (suc bound) more all end = good_at list (forms_within there list bound) (token_of more) all (λ rest e. good_bound list bound rest all e) (good_front more end)
+  good_bound : (bound : ℕ) (more : List ℕ) → IsEnd more text → AreGood (forms_within there bound more)
+  good_bound zero more end = tt
+  good_bound (suc bound) more end = good_at (forms_within there bound) (token_of more) (λ rest e. good_bound bound rest e) (good_front more end)
 
 whole_end : (text : List ℕ) → IsEnd text text
 whole_end text = record {
@@ -172,5 +164,5 @@ whole_end text = record {
 pub places_law : PlacesAreFirstBytes
 unfolding forms_of
 places_law number text forms e =
-    let all = good_bound number text (list_within (place_in number text) (length text)) (length text) text (good_within number text (length text)) (whole_end text) in
+    let all = good_bound number text (suc (length text)) text (whole_end text) in
     subst (AreGood number text) e all

@@ -10,8 +10,8 @@ use Rattle.lisp_read.specs.declared.fault.ReadAt.TheVariants.{At, OutOfMemory}
 use Rattle.lisp_read.specs.declared.lists.OpenList.{OpenList}
 use Rattle.lisp_read.specs.Forms.{Form}
 use Rattle.lisp_read.specs.Views.{form_of}
-use Rattle.lisp_read.specs.Grammar.{Places, Parsed, Read, Reads, Unreadable, with_form, with_forms}
-use Rattle.lisp_read.specs.FromHere.{forms_from, after}
+use Rattle.lisp_read.specs.Grammar.{Places, ParsedForm, Read, Reads, Unreadable, with_form, with_forms, forms_from}
+use Rattle.lisp_read.specs.Laws.{after}
 use Rattle.lisp_read.specs.Faults.{IsReadFault}
 use Rattle.lisp_read.specs.OpenLists.{told, IsFault, Leads, read_on}
 use Rattle.lisp_read.proofs.BoundLaws.{forms_step}
@@ -53,8 +53,8 @@ gives there items new token from rest form h =
 
 -- ---- faults
 
-fault_read : (forms : List Form) (read : Read) (more : List ℕ → Read) (fault : ReadAt) (parsed : Parsed) → read ≡ after forms (with_forms more parsed) → IsFault fault parsed → IsReadFault read fault
-fault_read forms read more (At what at) parsed e h = e ∙ ap (λ p. after forms (with_forms more p)) h ∙ after_fault forms what at
+fault_read : (forms : List Form) (read : Read) (more : List ℕ → Read) (fault : ReadAt) (parsed : ParsedForm) → read ≡ after forms (with_forms more parsed) → IsFault fault parsed → IsReadFault read fault
+fault_read forms read more (At what at) parsed e h = e ∙ ap (λ p. after forms (with_forms more p)) h.2 ∙ after_fault forms what h.0.at ∙ ap (Unreadable what) h.1
 fault_read forms read more OutOfMemory parsed e h = tt
 
 pub token_stops : (there : Places) (forms : List Form) (read : Read) (items : List OpenList) (token : Token) (from rest : List ℕ) (fault : ReadAt) → read ≡ after forms (read_on there items (Took token from rest)) →

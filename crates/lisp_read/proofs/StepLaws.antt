@@ -13,9 +13,10 @@ use Rattle.lisp_read.specs.declared.lists.Reach.TheVariants.{Elements, Dot}
 use Rattle.lisp_read.specs.declared.lists.OpenList.{OpenList}
 use Rattle.lisp_read.specs.Forms.{Form, Atom, Symbol}
 use Rattle.lisp_read.specs.Views.{form_of}
-use Rattle.lisp_read.specs.Grammar.{Places, Parsed, Parses}
-use Rattle.lisp_read.specs.OpenLists.{behind, takes_form, takes_dot, takes_end, list_of, with_next, token_in, read_in, form_in, continued, resumed, told, dot_of, first_dot, fault_behind, IsFault, Leads}
-use Rattle.lisp_read.proofs.ListLaws.{resumed_push, told_push, next_form, literal_in, symbol_in, begun_at, opens_first, opens_more, dot_in, end_in, fault_at, stops, unread_in, end_of_text_in}
+use Rattle.clvm_spec.specs.Grammar.{Parses}
+use Rattle.lisp_read.specs.Grammar.{Places, ParsedForm}
+use Rattle.lisp_read.specs.OpenLists.{behind, takes_form, takes_dot, takes_end, list_of, with_next, token_in, read_in, form_in, continued, resumed, told, dot_of, first_dot, fault_at, IsFault, Leads}
+use Rattle.lisp_read.proofs.ListLaws.{resumed_push, told_push, next_form, literal_in, symbol_in, begun_at, opens_first, opens_more, dot_in, end_in, stops, end_of_text_in}
 
 some_open : (outer : List OpenList) (list : OpenList) → 0 < length (outer ++ list ∷ [])
 some_open [] list = omega arith
@@ -24,8 +25,8 @@ some_open (l ∷ outer) list = omega arith
 pub is_open : (items outer : List OpenList) (list : OpenList) → items ≡ outer ++ list ∷ [] → 0 < length items
 is_open items outer list e = omega (arith, ap length e, some_open outer list)
 
-abbrev pub dotted : OpenList → ℕ → OpenList
-dotted list at = record list { reach = Dot at }
+abbrev pub dotted : OpenList → Place → OpenList
+dotted list place = record list { reach = Dot place }
 
 module _ (there : Places) (items outer : List OpenList) (list : OpenList) (is : items ≡ outer ++ list ∷ []) where
   abbrev depth : ℕ
@@ -34,22 +35,20 @@ module _ (there : Places) (items outer : List OpenList) (list : OpenList) (is : 
   told_last : (front : Front) → told there 0 items front ≡ resumed there 0 outer (read_in there depth list front)
   told_last front = ap (λ l. told there 0 l front) is ∙ told_push there 0 outer list front
 
-  resumed_last : (parsed : Parsed) → resumed there 0 items parsed ≡ resumed there 0 outer (continued there depth list parsed)
+  resumed_last : (parsed : ParsedForm) → resumed there 0 items parsed ≡ resumed there 0 outer (continued there depth list parsed)
   resumed_last parsed = ap (λ l. resumed there 0 l parsed) is ∙ resumed_push there 0 outer list parsed
 
   -- ---- faults
 
-  fault_told : (lent : List OpenList) (what : ScanKind) (at : ℕ) (fault : ReadAt) (parsed : Parsed) → lent ≡ outer → fault ≡ fault_behind (first_dot lent (dot_of list.reach)) what at → parsed ≡ fault_at (dot_of list.reach) what at →
+  fault_told : (lent : List OpenList) (what : ScanKind) (at : Place) (fault : ReadAt) (parsed : ParsedForm) → lent ≡ outer → IsFault fault (fault_at (first_dot lent (dot_of list.reach)) what at) → parsed ≡ fault_at (dot_of list.reach) what at →
       IsFault fault (resumed there 0 outer (behind list.place list.forms parsed))
-  fault_told lent what at fault parsed same e p =
-      subst (λ f. IsFault f (resumed there 0 outer (behind list.place list.forms parsed)))
-      (sym (e ∙ ap (λ l. fault_behind (first_dot l (dot_of list.reach)) what at) same)) (stops there outer list what at parsed p)
+  fault_told lent what at fault parsed same e p = stops there outer list what at fault parsed p (subst (λ l. IsFault fault (fault_at (first_dot l (dot_of list.reach)) what at)) same e)
 
-  pub told_stops : (lent : List OpenList) (what : ScanKind) (at : ℕ) (fault : ReadAt) (front : Front) → lent ≡ outer → fault ≡ fault_behind (first_dot lent (dot_of list.reach)) what at →
+  pub told_stops : (lent : List OpenList) (what : ScanKind) (at : Place) (fault : ReadAt) (front : Front) → lent ≡ outer → IsFault fault (fault_at (first_dot lent (dot_of list.reach)) what at) →
       token_in there depth list.place list.forms list.reach front ≡ fault_at (dot_of list.reach) what at → IsFault fault (told there 0 items front)
   told_stops lent what at fault front same e p = subst (IsFault fault) (sym (told_last front)) (fault_told lent what at fault _ same e p)
 
-  pub resumed_stops : (lent : List OpenList) (what : ScanKind) (at : ℕ) (fault : ReadAt) (parsed : Parsed) → lent ≡ outer → fault ≡ fault_behind (first_dot lent (dot_of list.reach)) what at →
+  pub resumed_stops : (lent : List OpenList) (what : ScanKind) (at : Place) (fault : ReadAt) (parsed : ParsedForm) → lent ≡ outer → IsFault fault (fault_at (first_dot lent (dot_of list.reach)) what at) →
       form_in there depth list.place list.reach parsed ≡ fault_at (dot_of list.reach) what at → IsFault fault (resumed there 0 items parsed)
   resumed_stops lent what at fault parsed same e p = subst (IsFault fault) (sym (resumed_last parsed)) (fault_told lent what at fault _ same e p)
 
@@ -74,7 +73,7 @@ module _ (there : Places) (items outer : List OpenList) (list : OpenList) (is : 
         ∙ ap (λ l. told there 0 (lists ++ l ∷ []) (token_of rest)) (sym is_begun) ∙ ap (λ l. told there 0 l (token_of rest)) (sym is_new),
   )
 
-  pub dot_leads : (new : List OpenList) (next : OpenList) (from rest : List ℕ) → new ≡ outer ++ next ∷ [] → next ≡ record list { reach = Dot (there from).at } → takes_dot list.reach list.forms ≡ true →
+  pub dot_leads : (new : List OpenList) (next : OpenList) (from rest : List ℕ) → new ≡ outer ++ next ∷ [] → next ≡ record list { reach = Dot (there from) } → takes_dot list.reach list.forms ≡ true →
       (0 < length new) × (told there 0 items (Took Point from rest) ≡ told there 0 new (token_of rest))
   dot_leads new next from rest is_new is_next takes = (
     is_open new outer next is_new,
@@ -188,7 +187,7 @@ end_split there items (nothing e) = rw e refl
 end_split there items (within outer list e) =
     let depth = suc (0 + length outer) in
     ap (λ l. told there 0 l AtEnd) e ∙ told_push there 0 outer list AtEnd
-    ∙ ap (λ p. resumed there 0 outer (behind list.place list.forms p)) (end_of_text_in there depth list.place list.forms list.reach ∙ sym (unread_in there depth list.place list.forms list.reach kind.End []))
+    ∙ ap (λ p. resumed there 0 outer (behind list.place list.forms p)) (end_of_text_in there depth list.place list.forms list.reach)
     ∙ sym (told_push there 0 outer list (Unread kind.End [])) ∙ ap (λ l. told there 0 l (Unread kind.End [])) (sym e)
 
 pub end_told : (there : Places) (items : List OpenList) → told there 0 items AtEnd ≡ told there 0 items (Unread kind.End [])

@@ -4,12 +4,16 @@ use Rattle.clvm_spec.specs.Tokens.{Token, Opening, Literal, Took, token_of}
 use Rattle.clvm_spec.specs.Tokens as tokens
 use Rattle.lisp_read.specs.declared.place.Place.{Place}
 use Rattle.lisp_read.specs.Forms.{Form, Atom, Symbol, Pair}
-use Rattle.lisp_read.specs.Grammar.{place_in, Reads, forms_of}
-use Rattle.lisp_read.specs.FromHere.{forms_from, after}
+use Rattle.lisp_read.specs.Grammar.{place_in, Read, Reads, with_form, forms_from, forms_of}
 
 -- A text has one reading.
 abbrev pub HasOneReading : Type 0
 HasOneReading = (number : ℕ) (text : List ℕ) (forms others : List Form) → forms_of number text ≡ Reads forms → forms_of number text ≡ Reads others → forms ≡ others
+
+-- forms before what is read
+abbrev pub after : List Form → Read → Read
+after [] read = read
+after (form ∷ forms) read = with_form form (after forms read)
 
 -- What is read leaves nothing of its text: with more lines behind it, its forms stand before those of the lines.
 abbrev pub LeavesNothing : Type 0

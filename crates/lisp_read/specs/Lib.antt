@@ -4,7 +4,6 @@ pub mod Views
 pub mod Turns
 pub mod Copies
 pub mod Grammar
-pub mod FromHere
 pub mod Faults
 pub mod OpenLists
 pub mod Laws

@@ -12,8 +12,8 @@ use std::alloc::Global;
 #[derive(Drop)]
 pub(crate) enum Reach {
     Elements,
-    Dot(u32),
-    Last(u32, Form),
+    Dot(Place),
+    Last(Place, Form),
 }
 
 /// A list that is open, with its elements so far.
@@ -65,7 +65,7 @@ impl OpenList {
         }
     }
 
-    pub(crate) fn dot(&self) -> Option<u32>
+    pub(crate) fn dot(&self) -> Option<Place>
         ensures { result ≡ dot_of self.now.reach }
     {
         match self.reach {
@@ -75,7 +75,7 @@ impl OpenList {
         }
     }
 
-    pub(crate) fn with_dot(self, dot: u32) -> OpenList
+    pub(crate) fn with_dot(self, dot: Place) -> OpenList
         ensures { result ≡ record self { reach = reach.Dot dot } }
     {
         let OpenList {

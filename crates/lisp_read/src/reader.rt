@@ -4,11 +4,12 @@ ghost use Rattle.std.specs.Prelude.{◌≡◌, ◌≤◌, ◌^◌, ℕ, List, le
 ghost use Rattle.clvm_spec.specs.Tokens.{Opening, Closing, Point, Took, Unread};
 ghost use Rattle.text_tokens.specs.Meanings.{meant};
 ghost use Rattle.lisp_read.specs.Views.{form_of};
-ghost use Rattle.lisp_read.specs.Grammar.{Places, Parses, Reads, forms_of};
+ghost use Rattle.clvm_spec.specs.Grammar.{Parses};
+ghost use Rattle.lisp_read.specs.Grammar.{Places, Reads, forms_of};
 ghost use Rattle.lisp_read.specs.Faults.{IsReadFault};
-ghost use Rattle.lisp_read.specs.OpenLists.{dot_of, first_dot, fault_behind, IsFault, resumed, told, Leads};
+ghost use Rattle.lisp_read.specs.OpenLists.{dot_of, first_dot, fault_at, IsFault, resumed, told, Leads};
 
-use crate::lists::OpenList;
+use crate::lists::{OpenList, Reach};
 use crate::{Form, Forms, Place, ReadAt, ReadKind, Word};
 use std::alloc::Global;
 use text_tokens::{Front, Token, first_token};
@@ -17,7 +18,7 @@ use text_tokens::{Front, Token, first_token};
 const MOST_OPEN: usize = 1024;
 
 // The place of the outermost open dot.
-fn first_dot(lists: &[OpenList], last: Option<u32>) -> Option<u32>
+fn first_dot(lists: &[OpenList], last: Option<Place>) -> Option<Place>
     ensures { result ≡ first_dot lists.now last }
 {
     let mut rest = lists;
@@ -30,31 +31,34 @@ fn first_dot(lists: &[OpenList], last: Option<u32>) -> Option<u32>
     last
 }
 
-// What is wrong behind an open dot is the dot's fault, but nesting too deep.
-fn fault_behind(dot: Option<u32>, kind: ReadKind, at: u32) -> ReadAt
-    ensures { result ≡ fault_behind dot kind at }
+// The fault of what is wrong behind the outermost open dot.
+fn fault_behind(dot: Option<Place>, kind: ReadKind, place: Place) -> ReadAt
+    ensures { IsFault result (fault_at dot kind place) }
 {
-    match (dot, kind) {
-        (Some(_), ReadKind::Deep) => ReadAt::At(ReadKind::Deep, at),
-        (Some(dot), _) => ReadAt::At(ReadKind::Dot, dot),
-        (None, _) => ReadAt::At(kind, at),
+    match dot {
+        Some(dot) if kind.is_dots_fault() => ReadAt::At(ReadKind::Dot, dot.at),
+        _ => ReadAt::At(kind, place.at),
     }
 }
 
 // The fault of what stands in the innermost list.
-fn fault_in(outer: &[OpenList], list: &OpenList, kind: ReadKind, at: u32) -> ReadAt
-    ensures { result ≡ fault_behind (first_dot outer.now (dot_of list.now.reach)) kind at }
+fn fault_in(outer: &[OpenList], list: &OpenList, kind: ReadKind, place: Place) -> ReadAt
+    ensures { IsFault result (fault_at (first_dot outer.now (dot_of list.now.reach)) kind place) }
 {
-    fault_behind(first_dot(outer, list.dot()), kind, at)
+    fault_behind(first_dot(outer, list.dot()), kind, place)
 }
 
 // The fault of what is no token, or of the text's end.
-fn fault(mut lists: Vec<OpenList>, kind: ReadKind, at: u32) -> ReadAt
-    ensures { (there : Places) (from : List ℕ) → (there from).at ≡ at → IsFault result (told there 0 lists.items (Unread kind from)) }
+fn fault(mut lists: Vec<OpenList>, kind: ReadKind, place: Place) -> ReadAt
+    ensures { (there : Places) (from : List ℕ) → there from ≡ place → IsFault result (told there 0 lists.items (Unread kind from)) }
 {
     match lists.pop() {
-        None => ReadAt::At(kind, at),
-        Some(list) => fault_in(lists.as_slice(), &list, kind, at),
+        None => ReadAt::At(kind, place.at),
+        Some(list) => match list.reach {
+            // Behind the last form whatever isn't `)` is the dot's fault.
+            Reach::Last(dot, _) => fault_in(lists.as_slice(), &list, ReadKind::Dot, dot),
+            _ => fault_in(lists.as_slice(), &list, kind, place),
+        },
     }
 }
 
@@ -63,7 +67,7 @@ fn put(
     alloc: Global,
     lists: &mut Vec<OpenList>,
     form: Form,
-    at: u32,
+    place: Place,
 ) -> Result<Option<Form>, ReadAt>
     ensures leads { IfOk result (λ done. (there : Places) (rest : List ℕ) → Leads there lists.new.items rest done (resumed there 0 lists.old.items (Parses (form_of form) rest))) }
     ensures stops { IfErr result (λ fault. (there : Places) (rest : List ℕ) → IsFault fault (resumed there 0 lists.old.items (Parses (form_of form) rest))) }
@@ -72,7 +76,7 @@ fn put(
         None => Ok(Some(form)),
         Some(list) => {
             if !list.takes_form() {
-                return Err(fault_in(lists.as_slice(), &list, ReadKind::Dot, at));
+                return Err(fault_in(lists.as_slice(), &list, ReadKind::Dot, place));
             }
             lists.push(list.with_form(alloc, form)?)?;
             Ok(None)
@@ -93,10 +97,10 @@ fn open(alloc: Global, lists: &mut Vec<OpenList>, place: Place) -> Result<(), Re
         }
         Some(list) => {
             if !list.takes_form() {
-                return Err(fault_in(lists.as_slice(), &list, ReadKind::Dot, place.at));
+                return Err(fault_in(lists.as_slice(), &list, ReadKind::Dot, place));
             }
             if lists.len() + 1 >= MOST_OPEN {
-                return Err(fault_in(lists.as_slice(), &list, ReadKind::Deep, place.at));
+                return Err(fault_in(lists.as_slice(), &list, ReadKind::Deep, place));
             }
             lists.push(list)?;
             lists.push(begun)?;
@@ -106,35 +110,35 @@ fn open(alloc: Global, lists: &mut Vec<OpenList>, place: Place) -> Result<(), Re
 }
 
 // Behind a dot stands the last form of its list.
-fn point(lists: &mut Vec<OpenList>, at: u32) -> Result<(), ReadAt>
-    ensures leads { IfOk result (λ _. (there : Places) (from rest : List ℕ) → (there from).at ≡ at → Leads there lists.new.items rest None (told there 0 lists.old.items (Took Point from rest))) }
-    ensures stops { IfErr result (λ fault. (there : Places) (from rest : List ℕ) → (there from).at ≡ at → IsFault fault (told there 0 lists.old.items (Took Point from rest))) }
+fn point(lists: &mut Vec<OpenList>, place: Place) -> Result<(), ReadAt>
+    ensures leads { IfOk result (λ _. (there : Places) (from rest : List ℕ) → there from ≡ place → Leads there lists.new.items rest None (told there 0 lists.old.items (Took Point from rest))) }
+    ensures stops { IfErr result (λ fault. (there : Places) (from rest : List ℕ) → there from ≡ place → IsFault fault (told there 0 lists.old.items (Took Point from rest))) }
 {
     match lists.pop() {
-        None => Err(ReadAt::At(ReadKind::Dot, at)),
+        None => Err(ReadAt::At(ReadKind::Dot, place.at)),
         Some(list) => {
             if !list.takes_dot() {
-                return Err(fault_in(lists.as_slice(), &list, ReadKind::Dot, at));
+                return Err(fault_in(lists.as_slice(), &list, ReadKind::Dot, place));
             }
-            lists.push(list.with_dot(at))?;
+            lists.push(list.with_dot(place))?;
             Ok(())
         }
     }
 }
 
 // A `)` ends the innermost list, which is the next form of the one around it.
-fn close(alloc: Global, lists: &mut Vec<OpenList>, at: u32) -> Result<Option<Form>, ReadAt>
-    ensures leads { IfOk result (λ done. (there : Places) (from rest : List ℕ) → (there from).at ≡ at → Leads there lists.new.items rest done (told there 0 lists.old.items (Took Closing from rest))) }
-    ensures stops { IfErr result (λ fault. (there : Places) (from rest : List ℕ) → (there from).at ≡ at → IsFault fault (told there 0 lists.old.items (Took Closing from rest))) }
+fn close(alloc: Global, lists: &mut Vec<OpenList>, place: Place) -> Result<Option<Form>, ReadAt>
+    ensures leads { IfOk result (λ done. (there : Places) (from rest : List ℕ) → there from ≡ place → Leads there lists.new.items rest done (told there 0 lists.old.items (Took Closing from rest))) }
+    ensures stops { IfErr result (λ fault. (there : Places) (from rest : List ℕ) → there from ≡ place → IsFault fault (told there 0 lists.old.items (Took Closing from rest))) }
 {
     match lists.pop() {
-        None => Err(ReadAt::At(ReadKind::Close, at)),
+        None => Err(ReadAt::At(ReadKind::Close, place.at)),
         Some(list) => {
             if !list.takes_end() {
-                return Err(fault_in(lists.as_slice(), &list, ReadKind::Close, at));
+                return Err(fault_in(lists.as_slice(), &list, ReadKind::Close, place));
             }
             let form = list.whole(alloc)?;
-            put(alloc, lists, form, at)
+            put(alloc, lists, form, place)
         }
     }
 }
@@ -154,18 +158,18 @@ fn step(
             open(alloc, lists, place)?;
             Ok(None)
         }
-        Token::Closing => close(alloc, lists, place.at),
+        Token::Closing => close(alloc, lists, place),
         Token::Point => {
-            point(lists, place.at)?;
+            point(lists, place)?;
             Ok(None)
         }
         Token::Literal(literal) => {
             let bytes = Word::from_vec(literal.bytes(alloc)?);
-            put(alloc, lists, Form::Atom(place, bytes), place.at)
+            put(alloc, lists, Form::Atom(place, bytes), place)
         }
         Token::Symbol(name) => {
             let name = Word::from_vec(Vec::from_slice(alloc, name)?);
-            put(alloc, lists, Form::Symbol(place, name), place.at)
+            put(alloc, lists, Form::Symbol(place, name), place)
         }
     }
 }
@@ -186,11 +190,12 @@ pub fn forms(alloc: Global, text: &[u8], number: u32) -> Result<Forms, ReadAt>
                 if lists.is_empty() {
                     return Ok(forms);
                 }
-                return Err(fault(lists, ReadKind::End, text.len() as u32));
+                let at = text.len() as u32;
+                return Err(fault(lists, ReadKind::End, Place { text: number, at }));
             }
             Front::Unread { kind, from } => {
                 let at = (text.len() - from.len()) as u32;
-                return Err(fault(lists, kind, at));
+                return Err(fault(lists, kind, Place { text: number, at }));
             }
             Front::Took {
                 token,

@@ -1,8 +1,8 @@
 use Rattle.std.proofs.Common.{[], ◌∷◌, ◌++◌, length, true, sym, ◌∙◌, ap, subst, arith}
 use Rattle.clvm_spec.specs.Tokens.{token_of}
-use Rattle.clvm_spec.specs.Text.{Parses, list_at}
-use Rattle.clvm_spec.specs.TextLaws.{list_from}
-use Rattle.clvm_spec.proofs.ScanLaws.{list_step}
+use Rattle.clvm_spec.specs.Grammar.{Parses, list_at, list_from}
+use Rattle.clvm_spec.specs.Text.{clvm}
+use Rattle.clvm_spec.proofs.GrammarLaws.{list_step}
 use Rattle.clvm_tree.proofs.NodeLaws.{grows_on}
 use Rattle.clvm_text.specs.declared.frames.Frame.TheVariants.{Whole, Inner, Element, Dot}
 use Rattle.clvm_text.specs.Forms.{formed}
@@ -95,9 +95,9 @@ returns-in-Inner-clause-settles c = λ limit h f.
       λ text rest.
           c.frames.invariant.same text rest ∙ ap (λ f. resumed trees text f (Parses (formed trees text whole) rest)) items
           ∙ resumed-push trees text popped (Inner depth) (Parses (formed trees text whole) rest)
-          ∙ ap (λ p. resumed trees text popped (framed trees text (Element whole) p)) (list_step depth true rest)
-          ∙ sym (resumed-push trees text popped (Element whole) (list_at list_from depth true (token_of rest)))
-          ∙ ap (λ f. resumed trees text f (list_at list_from depth true (token_of rest))) (sym pushed),
+          ∙ ap (λ p. resumed trees text popped (framed trees text (Element whole) p)) (list_step clvm depth [] true rest)
+          ∙ sym (resumed-push trees text popped (Element whole) (list_at clvm (list_from clvm) depth [] true (token_of rest)))
+          ∙ ap (λ f. resumed trees text f (list_at clvm (list_from clvm) depth [] true (token_of rest))) (sym pushed),
     )
 
 pub returns-in-Dot-clause-few : goal.returns-in-Dot-clause-few

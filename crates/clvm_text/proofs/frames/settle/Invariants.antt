@@ -1,5 +1,5 @@
 use Rattle.std.proofs.Common.{◌≡◌, ℕ, List, ◌+◌, ◌≤◌, length, vec_len}
-use Rattle.clvm_spec.specs.Text.{Parses}
+use Rattle.clvm_spec.specs.Grammar.{Parses}
 use Rattle.clvm_tree.specs.Nodes.{Grows}
 use Rattle.clvm_text.specs.Forms.{formed, IsKnownForm, IsFormWithin}
 use Rattle.clvm_text.specs.Frames.{resumed, AreBegun, AreWithin, elements}

@@ -61,7 +61,7 @@ returns-in_err-push-in-Parts-clause-too_long c =
     let whole = printed (tree_at trees c.args.node.0) in
     let fault = c.in_err-push-in-Parts.field-0.0 in
     let p = err_from_is_err_and c.from_residual-in_err-push-in-Parts.result c.from_residual-in_err-push-in-Parts.ensures.1 in
-    let some = opening_some c.in-Some.next.position (tree_at trees c.in-Parts.first.0) (tree_at trees c.in-Parts.rest.0) in
+    let some = opening_some (position_of c.in-Some.next.position) (tree_at trees c.in-Parts.first.0) (tree_at trees c.in-Parts.rest.0) in
     let long : fault ≡ TooLong → c.args.most < length whole = λ e. too_long c.args.most (string_bytes c.pending.text) (text_of trees c.in-Some.next) (texts trees c.pop.new.self.items) whole (written at)
     (omega (arith, c.in_err-push-in-Parts.ensures.too_long e, ap length c.opening.ensures, some, ap length (ap (text_at (position_of c.in-Some.next.position)) c.in-Parts.ensures.pair), c.pending.text.bytes.ok.0)) in
     rw p.1 (λ e. long (sym p.2 ∙ e))

@@ -2,7 +2,6 @@ use Rattle.std.proofs.Common.{◌-◌, ◌≤◌, length, sym, ◌∙◌, ap, su
 use Rattle.clvm_spec.specs.declared.scan_kind.ScanKind.TheVariants as kind
 use Rattle.clvm_spec.specs.Places.{place_of}
 use Rattle.clvm_spec.specs.Tokens.{token_of}
-use Rattle.clvm_spec.proofs.ScanLaws.{form_is}
 use Rattle.clvm_tree.proofs.NodeLaws.{grows_same, grows_on}
 use Rattle.text_tokens.proofs.EndLaws.{IsEnd-itself, IsEnd-within}
 use Rattle.text_tokens.specs.Meanings.{meant}
@@ -25,7 +24,7 @@ tokens-init c =
       end = IsEnd-itself text;
       within = subst (AreWithin (length text - length text)) (sym items) tt;
       mode_within = tt;
-      same = form_is (length text) text (omega arith) ∙ ap (λ f. told trees text f (mode.Form 0) (token_of text)) (sym items);
+      same = ap (λ f. told trees text f (mode.Form 0) (token_of text)) (sym items);
     }
 
 pub returns-in-Unread-clause-broken : goal.returns-in-Unread-clause-broken

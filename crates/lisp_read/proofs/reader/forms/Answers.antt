@@ -3,7 +3,7 @@ use Rattle.clvm_spec.specs.Tokens.{Took, token_of}
 use Rattle.text_tokens.specs.Meanings.{meant, meant_front}
 use Rattle.lisp_read.specs.Views.{form_of}
 use Rattle.lisp_read.specs.Grammar.{place_in, forms_of}
-use Rattle.lisp_read.specs.FromHere.{after}
+use Rattle.lisp_read.specs.Laws.{after}
 use Rattle.lisp_read.specs.OpenLists.{told, Leads, read_on}
 use Rattle.lisp_read.proofs.BoundLaws.{forms_start, forms_step}
 use Rattle.lisp_read.proofs.ReadLaws.{none_of}
@@ -31,7 +31,7 @@ returns-in-AtEnd-clause-fault c =
     let there = place_in c.args.number c.args.text.now in
     end_stops there c.tokens.forms (forms_of c.args.number c.args.text.now) c.tokens.lists.items c.fault.result
     (c.tokens.invariant.same ∙ ap (λ f. after c.tokens.forms (read_on there c.tokens.lists.items f)) (sym c.first_token.ensures.front ∙ ap meant_front c.in-AtEnd.is)) (search rules)
-    (c.fault.ensures there [] (omega arith))
+    (c.fault.ensures there [] (ap (λ n. record { text = c.args.number; at = n }) (omega arith)))
 
 pub returns-in-Unread-clause-fault : goal.returns-in-Unread-clause-fault
 returns-in-Unread-clause-fault c =

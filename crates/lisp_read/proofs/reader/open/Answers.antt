@@ -1,24 +1,24 @@
 use Rattle.std.proofs.Common.{rules, sym, ◌∙◌, ap, arith}
 use Rattle.clvm_spec.specs.declared.scan_kind.ScanKind.TheVariants as kind
 use Rattle.clvm_spec.specs.Tokens.{Opening, Took}
-use Rattle.lisp_read.specs.OpenLists.{dot_of}
-use Rattle.lisp_read.proofs.ListLaws.{fault_at, no_list_in, deep_in}
+use Rattle.lisp_read.specs.OpenLists.{dot_of, fault_at}
+use Rattle.lisp_read.proofs.ListLaws.{no_list_in, deep_in}
 use Rattle.lisp_read.proofs.StepLaws.{told_stops, open_leads, first_leads, begins}
 use Rattle.lisp_read.proofs.reader.open.Goals as goal
 
 pub returns-then-not-takes_form-clause-stops : goal.returns-then-not-takes_form-clause-stops
 returns-then-not-takes_form-clause-stops c = λ there from rest e.
     let list = c.in-Some.list in
-    told_stops there c.args.lists.now.items c.pop.new.self.items list c.in-Some.ensures.items c.as_slice.result.now kind.Dot c.args.place.at c.fault_in.result (Took Opening from rest)
+    told_stops there c.args.lists.now.items c.pop.new.self.items list c.in-Some.ensures.items c.as_slice.result.now kind.Dot c.args.place c.fault_in.result (Took Opening from rest)
     c.as_slice.ensures.value c.fault_in.ensures
-    (no_list_in there _ list.place list.forms list.reach from rest (sym c.takes_form.ensures ∙ c.if-not-takes_form.true) ∙ ap (λ p. fault_at (dot_of list.reach) kind.Dot p.at) e)
+    (no_list_in there _ list.place list.forms list.reach from rest (sym c.takes_form.ensures ∙ c.if-not-takes_form.true) ∙ ap (fault_at (dot_of list.reach) kind.Dot) e)
 
 pub returns-then-len-ge-MOST_OPEN-clause-stops : goal.returns-then-len-ge-MOST_OPEN-clause-stops
 returns-then-len-ge-MOST_OPEN-clause-stops c = λ there from rest e.
     let list = c.in-Some.list in
-    told_stops there c.args.lists.now.items c.pop.new.self.items list c.in-Some.ensures.items c.as_slice-then-len-ge-MOST_OPEN.result.now kind.Deep c.args.place.at c.fault_in-then-len-ge-MOST_OPEN.result (Took Opening from rest)
+    told_stops there c.args.lists.now.items c.pop.new.self.items list c.in-Some.ensures.items c.as_slice-then-len-ge-MOST_OPEN.result.now kind.Deep c.args.place c.fault_in-then-len-ge-MOST_OPEN.result (Took Opening from rest)
     c.as_slice-then-len-ge-MOST_OPEN.ensures.value c.fault_in-then-len-ge-MOST_OPEN.ensures
-    (deep_in there _ list.place list.forms list.reach from rest (sym c.takes_form.ensures ∙ c.if-not-takes_form.false) (omega (arith, c.if-len-ge-MOST_OPEN.true, c.len.ensures)) ∙ ap (λ p. fault_at (dot_of list.reach) kind.Deep p.at) e)
+    (deep_in there _ list.place list.forms list.reach from rest (sym c.takes_form.ensures ∙ c.if-not-takes_form.false) (omega (arith, c.if-len-ge-MOST_OPEN.true, c.len.ensures)) ∙ ap (fault_at (dot_of list.reach) kind.Deep) e)
 
 pub returns-in_ok-push-in-None-clause-leads : goal.returns-in_ok-push-in-None-clause-leads
 returns-in_ok-push-in-None-clause-leads c = λ there from rest e.

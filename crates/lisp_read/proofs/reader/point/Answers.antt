@@ -1,15 +1,15 @@
 use Rattle.std.proofs.Common.{sym, ◌∙◌, ap}
 use Rattle.clvm_spec.specs.declared.scan_kind.ScanKind.TheVariants as kind
 use Rattle.clvm_spec.specs.Tokens.{Point, Took}
-use Rattle.lisp_read.specs.OpenLists.{dot_of}
-use Rattle.lisp_read.proofs.ListLaws.{fault_at, no_dot_in}
+use Rattle.lisp_read.specs.OpenLists.{dot_of, fault_at}
+use Rattle.lisp_read.proofs.ListLaws.{no_dot_in}
 use Rattle.lisp_read.proofs.StepLaws.{told_stops, dotted, dot_leads}
 use Rattle.lisp_read.proofs.reader.point.Goals as goal
 
 pub returns-then-not-takes_dot-clause-stops : goal.returns-then-not-takes_dot-clause-stops
 returns-then-not-takes_dot-clause-stops c = λ there from rest e.
     let list = c.in-Some.list in
-    told_stops there c.args.lists.now.items c.pop.new.self.items list c.in-Some.ensures.items c.as_slice.result.now kind.Dot c.args.at c.fault_in.result (Took Point from rest)
+    told_stops there c.args.lists.now.items c.pop.new.self.items list c.in-Some.ensures.items c.as_slice.result.now kind.Dot c.args.place c.fault_in.result (Took Point from rest)
     c.as_slice.ensures.value c.fault_in.ensures
     (no_dot_in there _ list.place list.forms list.reach from rest (sym c.takes_dot.ensures ∙ c.if-not-takes_dot.true) ∙ ap (fault_at (dot_of list.reach) kind.Dot) e)
 

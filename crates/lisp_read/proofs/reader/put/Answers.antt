@@ -1,7 +1,7 @@
 use Rattle.std.proofs.Common.{sym, ◌∙◌}
 use Rattle.clvm_spec.specs.declared.scan_kind.ScanKind.TheVariants as kind
 use Rattle.lisp_read.specs.Views.{form_of}
-use Rattle.lisp_read.specs.Grammar.{Parses}
+use Rattle.clvm_spec.specs.Grammar.{Parses}
 use Rattle.lisp_read.proofs.ListLaws.{no_form_in}
 use Rattle.lisp_read.proofs.StepLaws.{resumed_stops, put_leads}
 use Rattle.lisp_read.proofs.reader.put.Goals as goal
@@ -9,9 +9,9 @@ use Rattle.lisp_read.proofs.reader.put.Goals as goal
 pub returns-then-not-takes_form-clause-stops : goal.returns-then-not-takes_form-clause-stops
 returns-then-not-takes_form-clause-stops c = λ there rest.
     let list = c.in-Some.list in
-    resumed_stops there c.args.lists.now.items c.pop.new.self.items list c.in-Some.ensures.items c.as_slice.result.now kind.Dot c.args.at c.fault_in.result (Parses (form_of c.args.form) rest)
+    resumed_stops there c.args.lists.now.items c.pop.new.self.items list c.in-Some.ensures.items c.as_slice.result.now kind.Dot c.args.place c.fault_in.result (Parses (form_of c.args.form) rest)
     c.as_slice.ensures.value c.fault_in.ensures
-    (no_form_in there _ list.place list.reach (form_of c.args.form) rest c.args.at (sym c.takes_form.ensures ∙ c.if-not-takes_form.true))
+    (no_form_in there _ list.place list.reach (form_of c.args.form) rest c.args.place (sym c.takes_form.ensures ∙ c.if-not-takes_form.true))
 
 pub returns-in_ok-push-in-Some-clause-leads : goal.returns-in_ok-push-in-Some-clause-leads
 returns-in_ok-push-in-Some-clause-leads c = λ there rest.

@@ -13,7 +13,7 @@ returns-in_ok-open-in-Opening-clause-leads c = λ there from rest e.
 
 pub returns-in_ok-point-in-Point-clause-leads : goal.returns-in_ok-point-in-Point-clause-leads
 returns-in_ok-point-in-Point-clause-leads c = λ there from rest e.
-    let h = c.in_ok-point-in-Point.ensures.leads there from rest (ap (λ p. p.at) e) in
+    let h = c.in_ok-point-in-Point.ensures.leads there from rest e in
     (h.0, ap (λ t. told there 0 c.args.lists.now.items (Took (meant t) from rest)) c.in-Point.is ∙ h.1)
 
 pub returns-in_ok-bytes-in-Literal-clause-leads : goal.returns-in_ok-bytes-in-Literal-clause-leads
