@@ -1,7 +1,7 @@
 -- The code of a module agrees with it.
 use Rattle.std.proofs.Common.{◌≡◌, ℕ, zero, suc, ◌+◌, ◌<◌, ◌≤◌, [], ◌∷◌, map, Some, refl, sym, ap, ◌∙◌, subst, arith}
 use Rattle.clvm_spec.specs.declared.fuel.Fuel.{Fuel}
-use Rattle.clvm_spec.specs.FuelLaws.{Spending}
+use Rattle.clvm_spec.specs.Spending.{Spending}
 use Rattle.clvm_spec.specs.Tree.{Tree, Pair, list_tree}
 use Rattle.clvm_spec.specs.Outcomes as run
 use Rattle.clvm_spec.specs.Outcomes.{Outcome}

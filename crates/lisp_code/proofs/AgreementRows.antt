@@ -1,9 +1,9 @@
 -- Code by hand that agrees with a small module.
-use Rattle.std.proofs.Common.{◌≡◌, ℕ, zero, suc, ◌+◌, ◌*◌, ℤ, pos, ◌+ℤ◌, Bool, true, false, cond, List, [], ◌∷◌, length, map, refl, sym, ap, ◌∙◌, subst, arith}
+use Rattle.std.proofs.Common.{◌≡◌, ℕ, zero, suc, ◌+◌, ◌*◌, ℤ, pos, ◌+ℤ◌, Bool, true, false, cond, Option, Some, None, List, [], ◌∷◌, length, map, refl, sym, ap, ◌∙◌, subst, arith}
 use Rattle.clvm_spec.specs.declared.fuel.Fuel.{Fuel}
 use Rattle.clvm_spec.specs.Tree.{Tree, Atom, Pair}
-use Rattle.clvm_spec.specs.Arithmetic.{fits_128}
-use Rattle.clvm_spec.specs.Operators.{numbers_from, from_left, new_number, new_atom, written, lengths}
+use Rattle.clvm_spec.specs.Arithmetic.{fits_128, if_fits}
+use Rattle.clvm_spec.specs.Operators.{numbers_from, from_left, or_wide, new_number, new_atom, written, lengths}
 use Rattle.clvm_spec.specs.Numbers.{number, shortest_atom, without_sign_bytes, is_short}
 use Rattle.clvm_spec.specs.Path.{followed}
 use Rattle.clvm_spec.specs.Reading.{head_at, tree_at_front}
@@ -87,8 +87,12 @@ new_atom_ends : (cost : ℕ) (bytes : List ℕ) → not_out (new_atom cost bytes
 unfolding not_out
 new_atom_ends cost bytes = λ e. cc
 
+or_wide_ends : (held : Option ℤ) (go : ℤ → Applied) → ((n : ℤ) → not_out (go n)) → not_out (or_wide held go)
+or_wide_ends None go p = too_wide_ends
+or_wide_ends (Some n) go p = p n
+
 new_number_ends : (cost : ℕ) (n : ℤ) → not_out (new_number cost n)
-new_number_ends cost n = either_ends (fits_128 n) (written cost (shortest_atom n)) TooWide (new_atom_ends (cost + 10 * length (shortest_atom n)) (shortest_atom n)) too_wide_ends
+new_number_ends cost n = or_wide_ends (if_fits n) (λ n. written cost (shortest_atom n)) (λ n. new_atom_ends (cost + 10 * length (shortest_atom n)) (shortest_atom n))
 
 from_left_ends : (step : ℤ → ℤ → ℤ) (so_far : ℤ) (ns : List ℤ) (go : ℤ → Applied) → ((n : ℤ) → not_out (go n)) → not_out (from_left step so_far ns go)
 from_left_ends step so_far [] go p = p so_far

@@ -1,7 +1,7 @@
 -- What code gives, its source means.
 use Rattle.std.proofs.Common.{◌≡◌, ℕ, zero, suc, ◌+◌, ◌==◌, ◌<◌, ◌≤◌, Bool, true, false, cond, List, [], ◌∷◌, map, Option, Some, None, option_map, codes, refl, sym, ap, subst, arith}
 use Rattle.clvm_spec.specs.declared.fuel.Fuel.{Fuel}
-use Rattle.clvm_spec.specs.FuelLaws.{Spending, Suffices}
+use Rattle.clvm_spec.specs.Spending.{Spending, Suffices}
 use Rattle.clvm_spec.specs.Tree.{Tree, Atom, Pair, list_tree}
 use Rattle.clvm_spec.specs.Outcomes.{Outcome}
 use Rattle.clvm_spec.specs.OperatorTable.{applied}

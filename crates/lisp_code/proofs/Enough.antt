@@ -5,7 +5,8 @@ use Rattle.clvm_spec.specs.Tree.{Tree}
 use Rattle.clvm_spec.specs.Outcomes as run
 use Rattle.clvm_spec.specs.Outcomes.{Outcome, Why}
 use Rattle.clvm_spec.specs.Evaluation.{evaluation}
-use Rattle.clvm_spec.specs.FuelLaws.{Spending, Suffices, fuel_less, IsAtLeast}
+use Rattle.clvm_spec.specs.Spending.{Spending, Suffices, fuel_less}
+use Rattle.clvm_spec.specs.FuelLaws.{IsAtLeast}
 use Rattle.lisp_spec.specs.Meaning.{Meaning, Value, Failed, Wide, Out}
 use Rattle.lisp_code.proofs.Plain.{plain}
 

@@ -9,7 +9,8 @@ use Rattle.clvm_spec.specs.Outcomes as run
 use Rattle.clvm_spec.specs.Outcomes.{Outcome, Applied, Gives, Fails, TooWide, NoStep, NotAList, WrongCount, NoOperator}
 use Rattle.clvm_spec.specs.OperatorTable.{applied, within}
 use Rattle.clvm_spec.specs.Evaluation.{if_done, charge, is_byte, at_path, Evaluator, goes_on, in_form, apply_values, values_of, deeper, operator_form, evaluated_by, evaluation}
-use Rattle.clvm_spec.specs.FuelLaws.{Spending, Suffices, fuel_less, IsAtLeast}
+use Rattle.clvm_spec.specs.Spending.{Spending, Suffices, fuel_less}
+use Rattle.clvm_spec.specs.FuelLaws.{IsAtLeast}
 use Rattle.clvm_spec.proofs.Steps.{one_step_law}
 use Rattle.lisp_spec.specs.Meaning.{Meaning, Value, Failed, Wide, Out, if_value, operator_meaning}
 use Rattle.lisp_code.proofs.Plain.{Runs, path_meaning, plain_run, plain_apply, plain_values, plain_form, plain_by, plain}

@@ -1,13 +1,9 @@
 -- The parts of a form whose first operand is quoted. Source: Chialisp reference.
-use Rattle.std.specs.Prelude.{◌≡◌, ℕ, ◌<◌, Bool, true, false, ◌&&◌, List, [], ◌∷◌, Option, Some, None, if◌then◌else◌}
-use Rattle.clvm_spec.specs.Tree.{Tree, Atom, Pair}
+use Rattle.std.specs.Prelude.{◌≡◌, ℕ, ◌<◌, ◌&&◌, List, Option, Some, None, if◌then◌else◌}
+use Rattle.clvm_spec.specs.Tree.{Tree, Pair}
 use Rattle.clvm_tree.specs.Nodes.{tree_at}
+use Rattle.clvm_spec.specs.Operators.{is_nil}
 use Rattle.clvm_spec.specs.Evaluation.{is_code}
-
-abbrev pub is_nil : Tree → Bool
-is_nil (Atom []) = true
-is_nil (Atom (b ∷ bytes)) = false
-is_nil (Pair first rest) = false
 
 -- the quoted tree and the last operand of `(OPERATOR (q . QUOTED) LAST)`
 abbrev pub form_parts : ℕ → Tree → Option (Tree × Tree)

@@ -1,5 +1,7 @@
 ghost use Rattle.std.specs.Prelude.{◌≤◌, ◌^◌, length};
 
+mod fuel;
+
 use crate::{Style, eval};
 use clvm_tree::Trees;
 use std::alloc::Global;
@@ -37,6 +39,27 @@ fn runs_in_hexadecimal(rt: HostRuntime) -> Result<(), Fail> {
         ("ff02ffff0102ff0180", "ff0980", COST, "value 09 cost 203\n"),
         ("02", "80", COST, "failed path 02\n"),
         (wide, "80", COST, "wide\n"),
+        // (q . 5), with just its cost and with less
+        ("ff0105", "80", 20, "value 05 cost 20\n"),
+        ("ff0105", "80", 19, "spent cost\n"),
+        // (a (q . 2) (q 9)), with just its cost and with less
+        (
+            "ff02ffff0102ffff01ff098080",
+            "80",
+            179,
+            "value 09 cost 179\n",
+        ),
+        ("ff02ffff0102ffff01ff098080", "80", 178, "spent cost\n"),
+        // (a (q . 2) (q . 9)): the path fails before it costs, so only what `a` itself costs can be wanting
+        ("ff02ffff0102ffff010980", "80", 131, "failed path 02\n"),
+        ("ff02ffff0102ffff010980", "80", 130, "spent cost\n"),
+        // (a 1 1 1)
+        (
+            "ff02ff01ff01ff0180",
+            "80",
+            COST,
+            "failed count ff02ff01ff01ff0180\n",
+        ),
     ];
     for (program, env, cost, want) in rows {
         let got = line(rt.alloc(), program, env, Style::Hexadecimal, cost)?;

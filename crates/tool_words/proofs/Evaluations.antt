@@ -1,5 +1,6 @@
 -- What is found behind `eval` is what its words say.
 use Rattle.std.proofs.Common.{◌≡◌, ◌∙◌, ℕ, ◌<◌, ◌≤◌, ◌^◌, Bool, true, false, cond, List, [], length, Option, Some, None, Err, IsTrue, codes, nat_le, rules, refl, sym, ap, subst, arith, leb-true, leb-false}
+use Rattle.std.specs.Char.{is_ascii_digit}
 use Rattle.std.specs.List.{list_all}
 use Rattle.std.specs.Option.{option_map, option_and_then}
 use Rattle.std.specs.Str.Parse.{digits_value, ParsesUnsigned}
@@ -7,7 +8,7 @@ use Rattle.std.proofs.lemmas.Bool.{false_from_ne_true, and_parts}
 use Rattle.std.proofs.lemmas.Str.Parse.{IsNumeralModel, numerals_by_value, parse_digits}
 use Rattle.clap.specs.Walk.{first_of}
 use Rattle.clap.specs.Walk.{Row as Found}
-use Rattle.tool_words.specs.Rows.{Text, Row, Item, is_among, flags_in, others_in, options_in, are_new, have_digits, is_digit, is_digits, is_whole, items_from, whole}
+use Rattle.tool_words.specs.Rows.{Text, Row, Item, is_among, flags_in, others_in, options_in, are_new, have_digits, is_digits, is_whole, items_from, whole}
 use Rattle.tool_words.specs.Parser.{digits_at, flag_text, IsRead}
 use Rattle.tool_words.specs.Fits.{words_in}
 use Rattle.tool_words.specs.Evals.{eval_row, up_to, cost_of, env_of, eval_in, eval_of}
@@ -16,10 +17,10 @@ use Rattle.tool_words.proofs.Laws.{digits_each}
 
 -- ---- digits
 
-own : IsNumeralModel (λ digits. list_all is_digit digits ≡ true) (digits_value 10)
+own : IsNumeralModel (λ digits. list_all is_ascii_digit digits ≡ true) (digits_value 10)
 own = numerals_by_value _ (search rules)
 
-is_long_and : (digits : Text) → is_digits digits ≡ true → list_all is_digit digits ≡ true
+is_long_and : (digits : Text) → is_digits digits ≡ true → list_all is_ascii_digit digits ≡ true
 is_long_and digits is =
     (and_parts (nat_le (length digits) 20) _ (and_parts (nat_le 1 (length digits)) _ is).1).1
 

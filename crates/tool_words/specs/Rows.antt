@@ -1,6 +1,7 @@
 -- What the words behind a command's name say. This project's own.
 use Rattle.std.specs.Prelude.{ℕ, Bool, true, not, ◌==◌, ◌&&◌, List, [], ◌∷◌, length, Option, Some, None, option_map, option_and_then, if◌then◌else◌, nat_le, bytes_eq}
 use Rattle.std.specs.List.{list_any, list_all, before_first, after_first}
+use Rattle.std.specs.Char.{is_ascii_digit}
 
 abbrev pub Text : Type 0
 Text = List ℕ
@@ -122,20 +123,21 @@ abbrev pub are_new : List Text → List Text → Bool
 are_new before [] = true
 are_new before (name ∷ names) = not (is_among before name) && are_new (name ∷ before) names
 
-abbrev pub is_digit : ℕ → Bool
-is_digit byte = nat_le 48 byte && nat_le byte 57
-
 -- whether a text is 1 to 20 ASCII digits
 abbrev pub is_digits : Text → Bool
-is_digits text = nat_le 1 (length text) && (nat_le (length text) 20 && list_all is_digit text)
+is_digits text = nat_le 1 (length text) && (nat_le (length text) 20 && list_all is_ascii_digit text)
 
 abbrev pub have_digits : List Item → Bool
 have_digits items = list_all (λ number. is_digits number.1) (numbers_in items)
 
+-- whether there are as many other words as the row has
+abbrev pub has_count : Row → List Text → Bool
+has_count row words = nat_le row.least (length words) && nat_le (length words) row.most
+
 -- each option is said once, the value of each number is 1 to 20 digits, and there are as many other words as the row has
 abbrev pub is_whole : Row → List Item → Bool
 is_whole row items = are_new [] (options_in items)
-    && (have_digits items && (nat_le row.least (length (others_in items)) && nat_le (length (others_in items)) row.most))
+    && (have_digits items && has_count row (others_in items))
 
 abbrev pub whole : Row → List Item → Option (List Item)
 whole row items = if is_whole row items then Some items else None

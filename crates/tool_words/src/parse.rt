@@ -1,10 +1,11 @@
 //! The words behind a command's name, as `clap` reads them.
 
 ghost use Rattle.std.specs.Prelude.{◌≡◌, map, IsTrue, string_bytes, length};
+ghost use Rattle.std.specs.Char.{is_ascii_digit};
 ghost use Rattle.std.specs.List.{list_all};
 ghost use Rattle.clap.specs.Walk.{first_of, rows_of};
 ghost use Rattle.clap.specs.Matches.{found_of};
-ghost use Rattle.tool_words.specs.Rows.{is_digit, is_digits};
+ghost use Rattle.tool_words.specs.Rows.{is_digits};
 ghost use Rattle.tool_words.specs.Parser.{is_good, is_readable, texts_of, row_of, digits_at, Takes, Reads};
 ghost use Rattle.tool_words.specs.Fits.{fits, words_in};
 
@@ -62,7 +63,7 @@ fn matches<'a>(
 }
 
 fn are_digits(bytes: &[u8]) -> bool
-    ensures { result ≡ list_all is_digit bytes.now }
+    ensures { result ≡ list_all is_ascii_digit bytes.now }
 {
     for byte in bytes {
         if !byte.is_ascii_digit() {
