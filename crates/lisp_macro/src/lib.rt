@@ -9,6 +9,8 @@ mod lists;
 mod load;
 mod macros;
 mod operators;
+#[cfg(test)]
+mod tests;
 mod unload;
 mod value;
 mod walk;
