@@ -19,7 +19,7 @@ use Rattle.clvm_spec.specs.Numbers.{number, unsigned, shortest_atom}
 use Rattle.clvm_spec.specs.Arithmetic.{fits_128}
 use Rattle.clvm_spec.specs.OperatorTable.{Operator, operators, operator_of, operator_named}
 use Rattle.clvm_spec.specs.Tokens.{Token, Literal, Symbol, Took, is_word_byte, without_minus, is_number, number_token, hex_literal, word_token}
-use Rattle.clvm_spec.specs.Text.{is_short_number, atom_text, name_or_text, head_text, Named, Names, named, clvm}
+use Rattle.clvm_spec.specs.Text.{is_decimal, atom_text, name_or_text, head_text, Named, Names, named, clvm}
 use Rattle.clvm_spec.specs.Grammar.{Parses, InList, form_at}
 
 -- the text is a word whose token is that of the atom
@@ -170,7 +170,7 @@ and_second : (a b : Bool) → (a && b) ≡ true → b ≡ true
 and_second true b e = e
 and_second false b e = cc
 
-number_word : (bytes : List ℕ) → AllBelowBase 256 bytes → is_short_number bytes ≡ true → IsWordOf bytes (signed_decimal (number bytes))
+number_word : (bytes : List ℕ) → AllBelowBase 256 bytes → is_decimal bytes ≡ true → IsWordOf bytes (signed_decimal (number bytes))
 number_word bytes h e =
     signed_word bytes (number bytes) (small_number bytes h (and_first (nat_le (length bytes) 2) (bytes_eq (shortest_atom (number bytes)) bytes) e))
     ((bytes_eq-Decides (shortest_atom (number bytes)) bytes).0 (and_second (nat_le (length bytes) 2) (bytes_eq (shortest_atom (number bytes)) bytes) e))
@@ -182,7 +182,7 @@ word_if atom false a b ha hb = hb
 -- What is printed of an atom that isn't nil is its word.
 pub atom_word : (b : ℕ) (bytes : List ℕ) → AllBelowBase 256 (b ∷ bytes) → IsWordOf (b ∷ bytes) (atom_text (b ∷ bytes))
 atom_word b bytes h =
-    word_if (b ∷ bytes) (is_short_number (b ∷ bytes)) (signed_decimal (number (b ∷ bytes))) (codes "0x" ++ encode_lower (b ∷ bytes)) (number_word (b ∷ bytes) h) (hex_word b bytes h)
+    word_if (b ∷ bytes) (is_decimal (b ∷ bytes)) (signed_decimal (number (b ∷ bytes))) (codes "0x" ++ encode_lower (b ∷ bytes)) (number_word (b ∷ bytes) h) (hex_word b bytes h)
 
 -- ---- names
 

@@ -10,7 +10,7 @@ use Rattle.clvm_spec.specs.OperatorTable.{applied, operator_of, operator_named}
 use Rattle.clvm_spec.specs.Evaluation.{evaluation}
 use Rattle.clvm_spec.specs.Tokens.{token_of, word_token}
 use Rattle.clvm_spec.specs.Text.{scanned}
-use Rattle.clvm_spec.proofs.Cases.{tree, run, gives, fails, wide, spent, with_cost, with_depth, with_fuel}
+use Rattle.clvm_spec.proofs.Cases.{tree, run, gives, fails, wide, spent, exactly, with_cost, with_depth, with_fuel}
 
 -- Codes of no row, beside those of the table.
 no_operators :
@@ -98,6 +98,57 @@ short_of_fuel :
     × spent "(a (q + (q . 1)) 1)" "()" (with_depth 0) Depth
 unfolding without_sign_bytes shortest_atom followed applied operator_of operator_named evaluation token_of word_token scanned
 short_of_fuel = (refl, refl, refl, refl, refl, refl, refl, refl, refl, refl, refl, refl, refl, refl, refl, refl, refl)
+
+-- With just enough of each count an operator gives its value, and with one less of the cost none.
+just_enough :
+    exactly "(i (q . ()) (q . 5) (q . 6))" "()" "6" 94 0 0
+    × exactly "(c (q . 5) (q . (6)))" "()" "(f 6)" 91 1 0
+    × exactly "(f (q . (5 6)))" "()" "5" 51 0 0
+    × exactly "(r (q . (5 6)))" "()" "(r)" 51 0 0
+    × exactly "(l (q . (5)))" "()" "1" 40 0 0
+    × exactly "(= (q . 5) (q . 5))" "()" "1" 160 0 0
+    × exactly "(>s (q . 2) (q . 1))" "()" "1" 160 0 0
+    × exactly "(substr (q . 'abcd') (q . 1) (q . 3))" "()" "25187" 62 0 10
+    × exactly "(strlen (q . ()))" "()" "()" 194 0 8
+    × exactly "(concat)" "()" "()" 143 0 8
+    × exactly "(+)" "()" "()" 100 0 8
+    × exactly "(-)" "()" "()" 100 0 8
+    × exactly "(*)" "()" "1" 103 0 9
+    × exactly "(/ (q . 7) (q . 2))" "()" "3" 1047 0 9
+    × exactly "(divmod (q . 7) (q . 2))" "()" "(i . 1)" 1189 1 18
+    × exactly "(> (q . 2) (q . 1))" "()" "1" 543 0 0
+    × exactly "(ash (q . 1) (q . 4))" "()" "16" 653 0 9
+    × exactly "(lsh (q . 1) (q . 4))" "()" "16" 334 0 9
+    × exactly "(logand)" "()" "-1" 111 0 9
+    × exactly "(logior)" "()" "()" 101 0 8
+    × exactly "(logxor)" "()" "()" 101 0 8
+    × exactly "(lognot (q . 0))" "()" "-1" 362 0 9
+    × exactly "(not (q . ()))" "()" "1" 221 0 0
+    × exactly "(any)" "()" "()" 201 0 0
+    × exactly "(all)" "()" "1" 201 0 0
+unfolding without_sign_bytes shortest_atom followed applied operator_of operator_named evaluation token_of word_token scanned
+just_enough = ((refl, refl), (refl, refl), (refl, refl), (refl, refl), (refl, refl), (refl, refl), (refl, refl), (refl, refl), (refl, refl), (refl, refl), (refl, refl), (refl, refl), (refl, refl), (refl, refl), (refl, refl), (refl, refl), (refl, refl), (refl, refl), (refl, refl), (refl, refl), (refl, refl), (refl, refl), (refl, refl), (refl, refl), (refl, refl))
+
+-- With one pair less, or one byte less, there is none, either.
+one_less :
+    spent "(c (q . 5) (q . (6)))" "()" (with_fuel 91 0 0 1) Pairs
+    × spent "(substr (q . 'abcd') (q . 1) (q . 3))" "()" (with_fuel 62 0 9 1) Bytes
+    × spent "(strlen (q . ()))" "()" (with_fuel 194 0 7 1) Bytes
+    × spent "(concat)" "()" (with_fuel 143 0 7 1) Bytes
+    × spent "(+)" "()" (with_fuel 100 0 7 1) Bytes
+    × spent "(-)" "()" (with_fuel 100 0 7 1) Bytes
+    × spent "(*)" "()" (with_fuel 103 0 8 1) Bytes
+    × spent "(/ (q . 7) (q . 2))" "()" (with_fuel 1047 0 8 1) Bytes
+    × spent "(divmod (q . 7) (q . 2))" "()" (with_fuel 1189 0 18 1) Pairs
+    × spent "(divmod (q . 7) (q . 2))" "()" (with_fuel 1189 1 17 1) Bytes
+    × spent "(ash (q . 1) (q . 4))" "()" (with_fuel 653 0 8 1) Bytes
+    × spent "(lsh (q . 1) (q . 4))" "()" (with_fuel 334 0 8 1) Bytes
+    × spent "(logand)" "()" (with_fuel 111 0 8 1) Bytes
+    × spent "(logior)" "()" (with_fuel 101 0 7 1) Bytes
+    × spent "(logxor)" "()" (with_fuel 101 0 7 1) Bytes
+    × spent "(lognot (q . 0))" "()" (with_fuel 362 0 8 1) Bytes
+unfolding without_sign_bytes shortest_atom followed applied operator_of operator_named evaluation token_of word_token scanned
+one_less = (refl, refl, refl, refl, refl, refl, refl, refl, refl, refl, refl, refl, refl, refl, refl, refl)
 
 -- The hash of nothing.
 no_text :

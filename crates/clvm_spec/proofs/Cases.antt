@@ -1,10 +1,11 @@
 -- How the cases by computation are written: trees by their text, fuel by what is used of it.
-use Rattle.std.specs.Prelude.{◌≡◌, ℕ, codes, unwrap_or, option_and_then}
+use Rattle.std.specs.Prelude.{◌≡◌, ℕ, ◌-◌, codes, unwrap_or, option_and_then}
 use Prim.Native.String.{String}
 use Rattle.std.specs.Result.{result_ok}
 use Rattle.hex.specs.Hex.{decode_of}
 use Rattle.clvm_spec.specs.declared.fuel.Fuel.{Fuel}
 use Rattle.clvm_spec.specs.declared.fuel.Which.{Which}
+use Rattle.clvm_spec.specs.declared.fuel.Which.TheVariants.{Cost}
 use Rattle.clvm_spec.specs.Tree.{Tree, Atom}
 use Rattle.clvm_spec.specs.Outcomes.{Why, Outcome, Done, Failed, Spent, Wide}
 use Rattle.clvm_spec.specs.Evaluation.{run_outcome, fuel_of}
@@ -65,3 +66,8 @@ wide program env = run program env ample ≡ Wide
 
 abbrev pub spent : String → String → Fuel → Which → Type 0
 spent program env fuel which = run program env fuel ≡ Spent which
+
+-- with just this of each count: the value; and with one less of the cost: none
+abbrev pub exactly : String → String → String → ℕ → ℕ → ℕ → Type 0
+exactly program env value cost pairs bytes =
+    (run program env (with_fuel cost pairs bytes 1) ≡ Done (tree value) (with_fuel 0 0 0 1)) × spent program env (with_fuel (cost - 1) pairs bytes 1) Cost

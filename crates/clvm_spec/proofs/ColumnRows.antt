@@ -3,8 +3,8 @@ use Rattle.std.specs.Prelude.{◌≡◌, [], ◌∷◌, replicate, Some, None, r
 use Rattle.std.proofs.Common.{arith}
 use Rattle.clvm_spec.specs.Tree.{Tree, Atom, Pair, nil}
 use Rattle.clvm_spec.specs.Outcomes.{WrongOperand, Fails, TooWide}
-use Rattle.clvm_spec.specs.OperatorTable.{Any, Pairs, Atoms, Numbers, AtomAndNumbers}
-use Rattle.clvm_spec.specs.ColumnLaws.{IsAtMost, operand_fault, first_fault, atom_length}
+use Rattle.clvm_spec.specs.declared.operands.Operands.TheVariants.{Any, Pairs, Atoms, Numbers, AtomAndNumbers}
+use Rattle.clvm_spec.specs.ColumnLaws.{IsAtMost, operand_fault, first_fault}
 
 -- a number, an atom that is no number, and a pair
 abbrev five : Tree
@@ -33,9 +33,6 @@ the_first :
     × (first_fault Numbers 0 (five ∷ long ∷ both ∷ []) ≡ Some TooWide)
     × (first_fault AtomAndNumbers 0 (long ∷ five ∷ both ∷ []) ≡ Some (Fails (WrongOperand 2)))
 the_first = (refl, refl, refl, refl, refl)
-
-lengths : (atom_length nil ≡ 0) × (atom_length long ≡ 17) × (atom_length both ≡ 0)
-lengths = (refl, refl, refl)
 
 counts : IsAtMost None 5 × IsAtMost (Some 3) 3 × (IsAtMost (Some 3) 4 → ⊥)
 counts = (tt, omega arith, λ h. absurd (omega (arith, h)))

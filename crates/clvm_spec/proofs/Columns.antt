@@ -6,13 +6,18 @@ use Rattle.std.specs.List.{All, AllByRecursion}
 use Rattle.std.proofs.lemmas.Bool.{cond_both, ltb-false}
 use Rattle.std.proofs.lemmas.List.Elements.{All-from_recursion}
 use Rattle.clvm_spec.specs.Numbers.{is_short}
-use Rattle.clvm_spec.specs.Tree.{Tree, Atom, Pair}
+use Rattle.clvm_spec.specs.Tree.{Tree, Atom, Pair, bytes_of}
 use Rattle.clvm_spec.specs.Numbers.{number, shortest_atom}
-use Rattle.clvm_spec.specs.Arithmetic.{fits_128, if_fits}
+use Rattle.clvm_spec.specs.Arithmetic.{fits_128, if_fits, is_zero, quotient, remainder}
 use Rattle.clvm_spec.specs.Outcomes.{Why, NoStep, NotAList, WrongCount, WrongOperand, Raised, ZeroDivisor, WrongShift, NoOperator, Applied, Gives, Fails, TooWide}
 use Rattle.clvm_spec.specs.Operators as op
-use Rattle.clvm_spec.specs.OperatorTable.{Operands, Any, Atoms, Numbers, AtomAndNumbers, Operator, operator}
-use Rattle.clvm_spec.specs.ColumnLaws.{rows_on_values, IsAtMost, HasCount, CountsAreColumns, operand_fault, pair_fault, atom_fault, number_fault, first_fault, KindsAreColumns, NoOtherIsWrong, atom_length, OnlyNumbersAreTooWide, CostsAreColumns}
+use Rattle.clvm_spec.specs.declared.operands.Operands.{Operands}
+use Rattle.clvm_spec.specs.declared.operands.Operands.TheVariants.{Any, Atoms, Numbers, AtomAndNumbers}
+use Rattle.clvm_spec.specs.OperatorTable.{Operator, operator}
+use Rattle.clvm_spec.specs.ColumnLaws.{rows_on_values, IsAtMost, HasCount, CountsAreColumns, operand_fault, pair_fault, atom_fault, number_fault, first_fault, KindsAreColumns, NoOtherIsWrong, OnlyNumbersAreTooWide, CostsAreColumns}
+
+abbrev atom_length : Tree → ℕ
+atom_length tree = length (bytes_of tree)
 
 -- ---- what is to hold of what a row gives, once no operand is wrong by its kind
 
@@ -96,12 +101,12 @@ any_kind : (place : ℕ) (operands : List Tree) → first_fault Any place operan
 any_kind place [] = refl
 any_kind place (operand ∷ operands) = any_kind (suc place) operands
 
-in_atoms : {cost size : ℕ} (place : ℕ) (operands : List Tree) (go : List (List ℕ) → Applied) → ((atoms : List (List ℕ)) → IsGiven Atoms cost size (go atoms)) → Reads Atoms cost size place operands (op.atoms_from place operands go)
+in_atoms : {cost size : ℕ} (place : ℕ) (operands : List Tree) (go : List (List ℕ) → Applied) → ((atoms : List (List ℕ)) → IsGiven Atoms cost size (go atoms)) → Reads Atoms cost size place operands (op.each_read op.atom_at place operands go)
 in_atoms place [] go p = fair _ refl (p [])
 in_atoms place (operand ∷ operands) go p =
     in_atom place operand operands _ (λ t. refl) (λ bytes is. in_atoms (suc place) operands (λ more. go (bytes ∷ more)) (λ more. p (bytes ∷ more)))
 
-in_numbers : {cost size : ℕ} (place : ℕ) (operands : List Tree) (go : List (List ℕ) → Applied) → ((atoms : List (List ℕ)) → IsGiven Numbers cost size (go atoms)) → Reads Numbers cost size place operands (op.numbers_from place operands go)
+in_numbers : {cost size : ℕ} (place : ℕ) (operands : List Tree) (go : List (List ℕ) → Applied) → ((atoms : List (List ℕ)) → IsGiven Numbers cost size (go atoms)) → Reads Numbers cost size place operands (op.each_read op.number_at place operands go)
 in_numbers place [] go p = fair _ refl (p [])
 in_numbers place (operand ∷ operands) go p =
     in_number place operand operands _ (λ t. refl) (λ bytes. in_numbers (suc place) operands (λ more. go (bytes ∷ more)) (λ more. p (bytes ∷ more)))
@@ -192,12 +197,15 @@ module _ {cost size : ℕ} where
   in_new_number : (paid : ℕ) (n : ℤ) → cost ≤ paid → 1 ≤ paid → IsGiven Numbers cost size (op.new_number paid n)
   in_new_number paid n h k = in_held (if_fits n) (λ n. gives (omega arith) (omega arith))
 
+  in_new_pair : (paid : ℕ) (a b : ℤ) → cost ≤ paid → 1 ≤ paid → IsGiven Numbers cost size (op.new_pair_of_numbers paid a b)
+  in_new_pair paid a b h k = in_held (if_fits a) (λ a. in_held (if_fits b) (λ b. gives (omega arith) (omega arith)))
+
   in_from_left : (step : ℤ → ℤ → ℤ) (so_far : ℤ) (ns : List ℤ) (paid : ℕ) → cost ≤ paid → 1 ≤ paid → IsGiven Numbers cost size (op.from_left step so_far ns (op.new_number paid))
   in_from_left step so_far [] paid h k = in_new_number paid so_far h k
-  in_from_left step so_far (n ∷ ns) paid h k = either (fits_128 (step so_far n)) _ TooWide (in_from_left step (step so_far n) ns paid h k) wide
+  in_from_left step so_far (n ∷ ns) paid h k = in_held (if_fits (step so_far n)) (λ next. in_from_left step next ns paid h k)
 
-in_sum : {size : ℕ} (cost : ℕ) (step : ℤ → ℤ → ℤ) (so_far : ℤ) (ns : List ℤ) (atoms : List (List ℕ)) → 1 ≤ cost → IsGiven Numbers cost size (op.from_left step so_far ns (op.new_number (cost + 320 * length atoms + 3 * op.lengths atoms)))
-in_sum cost step so_far ns atoms h = in_from_left step so_far ns (cost + 320 * length atoms + 3 * op.lengths atoms) (omega arith) (omega arith)
+in_sum : {size : ℕ} (cost : ℕ) (step : ℤ → ℤ → ℤ) (so_far : ℤ) (ns : List ℤ) (atoms : List (List ℕ)) → 1 ≤ cost → IsGiven Numbers cost size (op.from_left step so_far ns (op.new_number (cost + op.terms_cost atoms)))
+in_sum cost step so_far ns atoms h = in_from_left step so_far ns (cost + op.terms_cost atoms) (omega arith) (omega arith)
 
 in_product : {size : ℕ} (cost : ℕ) (first : List ℕ) (others : List (List ℕ)) → 1 ≤ cost
     → IsGiven Numbers cost size (op.from_left ◌*ℤ◌ (number first) (map number others) (op.new_number (cost + op.factors_cost (length first) (number first) others)))
@@ -211,6 +219,12 @@ in_length cost a bytes h is =
     cond_both (fits_128 (pos (length bytes))) _ None (λ held. IsGiven Atoms cost (sum_by atom_length (a ∷ [])) (op.or_wide held (λ n. op.written (cost + length bytes) (shortest_atom n))))
     (λ e. gives (omega arith) (omega arith))
     (λ e. let large = ltb-false (length bytes) (2 ^ 127) e in record { fact = λ small. absurd (omega (arith, size)) })
+
+in_quotient_and_remainder : {size : ℕ} (cost : ℕ) (a b : List ℕ) → 1 ≤ cost
+    → IsGiven Numbers cost size (op.unless_zero (number b) (op.new_pair_of_numbers (cost + 6 * (length a + length b)) (quotient (number a) (number b)) (remainder (number a) (number b))))
+unfolding FaultOf
+in_quotient_and_remainder cost a b h =
+    either (is_zero (number b)) (Fails ZeroDivisor) _ (fails tt) (in_new_pair (cost + 6 * (length a + length b)) (quotient (number a) (number b)) (remainder (number a) (number b)) (omega arith) (omega arith))
 
 in_part : {cost size : ℕ} (part : Option (List ℕ)) → 1 ≤ cost → IsGiven AtomAndNumbers cost size (op.part_or_fault cost part)
 unfolding FaultOf
@@ -266,7 +280,7 @@ columns = (
                               (
                                 (λ operands. in_two_numbers _ operands _ refl refl refl (λ a b size. either _ _ _ (fails tt) (in_held _ (λ n. gives (omega arith) (omega arith))))),
                                 (
-                                  (λ operands. in_two_numbers _ operands _ refl refl refl (λ a b size. either _ _ _ (fails tt) (either _ _ _ (gives (omega arith) (omega arith)) wide))),
+                                  (λ operands. in_two_numbers _ operands _ refl refl refl (λ a b size. in_quotient_and_remainder 1116 a b (omega arith))),
                                   (
                                     (λ operands. in_two_numbers _ operands _ refl refl refl (λ a b size. gives (omega arith) (omega arith))),
                                     (

@@ -77,6 +77,8 @@ costs :
     × (run "(a (q . 1) (q . 1))" "()" (with_cost 175) ≡ Done (tree "1") (less 175 0 0 (with_cost 175)))
     × spent "(a (q . 1) (q . 1))" "()" (with_cost 174) Cost
     × spent "(a (q . 1) (q . 1))" "()" (with_cost 130) Cost
+    × (run "(a (q . 2) (q . 9))" "()" (with_cost 131) ≡ Failed NoStep (tree "2"))
+    × spent "(a (q . 2) (q . 9))" "()" (with_cost 130) Cost
     × (run "(a (q . 2) 1)" "(9)" (with_cost 203) ≡ Done (tree "9") (less 203 0 0 (with_cost 203)))
     × spent "(a (q . 2) 1)" "(9)" (with_cost 202) Cost
     × spent "(x)" "()" (with_cost 0) Cost
@@ -91,7 +93,7 @@ costs :
     × (run "(f (q . 1))" "()" (with_cost 21) ≡ Failed (WrongOperand 0) (tree "(f (q . 1))"))
     × spent "(f (q . 1))" "()" (with_cost 20) Cost
 unfolding without_sign_bytes shortest_atom followed applied operator_of operator_named evaluation token_of word_token scanned
-costs = (refl, refl, refl, refl, refl, refl, refl, refl, refl, refl, refl, refl, refl, refl, refl, refl, refl, refl, refl, refl, refl, refl)
+costs = (refl, refl, refl, refl, refl, refl, refl, refl, refl, refl, refl, refl, refl, refl, refl, refl, refl, refl, refl, refl, refl, refl, refl, refl)
 
 -- New pairs, and bytes of new atoms.
 pairs :

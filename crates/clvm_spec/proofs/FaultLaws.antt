@@ -7,6 +7,7 @@ use Rattle.clvm_spec.specs.Tree.{Tree, Atom, Pair}
 use Rattle.clvm_spec.specs.Spelling.{atom_spelling, spelling, HasSpelling}
 use Rattle.clvm_spec.specs.Reading.{Flaw, Head, PairMark, Leaf, Beginning, Begins, Flawed, head_at, Read, Found, Faulty, with_first, with_both, from_head, tree_at_front}
 use Rattle.clvm_spec.specs.Faults.{head_bytes, IsOpenFrom, HasFault}
+use Rattle.clvm_spec.specs.Laws.{FlawIsFound}
 use Rattle.clvm_spec.proofs.HeadLaws.{head_shrinks}
 use Rattle.clvm_spec.proofs.FrontLaws.{front_flawed, front_leaf, front_open, front_step}
 use Rattle.clvm_spec.proofs.SpelledLaws.{Says, says_front, head_at-atom, head_at-open}
@@ -37,11 +38,63 @@ open_more k (PairMark ∷ heads) o = open_more (suc k) heads o
 open_more zero (Leaf atom ∷ heads) o = absurd o
 open_more (suc k) (Leaf atom ∷ heads) o = (o.0, open_more k heads o.1)
 
+-- ---- no list of heads before the flaw is longer
+
+abbrev IsSpelledHead : Head → Type 0
+IsSpelledHead PairMark = Unit {0}
+IsSpelledHead (Leaf atom) = HasSpelling (Atom atom)
+
+abbrev AreSpelled : List Head → Type 0
+AreSpelled [] = Unit {0}
+AreSpelled (head ∷ heads) = IsSpelledHead head × AreSpelled heads
+
+spelled_open : (k : ℕ) (heads : List Head) → IsOpenFrom k heads → AreSpelled heads
+spelled_open k [] o = tt
+spelled_open k (PairMark ∷ heads) o = (tt, spelled_open (suc k) heads o)
+spelled_open zero (Leaf atom ∷ heads) o = absurd o
+spelled_open (suc k) (Leaf atom ∷ heads) o = (o.0, spelled_open k heads o.1)
+
+head_again : (head : Head) (more : List ℕ) → IsSpelledHead head → head_at (head_bytes head ++ more) ≡ Begins head more
+head_again PairMark more s = head_at-open more
+head_again (Leaf atom) more s = head_at-atom atom more s
+
+list_again : (head : Head) (heads : List Head) (rest : List ℕ) → IsSpelledHead head → head_at (flat_map head_bytes (head ∷ heads) ++ rest) ≡ Begins head (flat_map head_bytes heads ++ rest)
+list_again head heads rest s = ap head_at (append_assoc (head_bytes head) (flat_map head_bytes heads) rest) ∙ head_again head (flat_map head_bytes heads ++ rest) s
+
+same_behind : (g h : Head) (xs ys : List ℕ) → Begins g xs ≡ Begins h ys → xs ≡ ys
+same_behind g h xs ys e = cc
+
+begins_none : (flaw : Flaw) (head : Head) (xs : List ℕ) → Flawed flaw ≡ Begins head xs → ⊥
+begins_none flaw head xs e = cc
+
+no_longer : (heads others : List Head) (rest behind : List ℕ) (flaw : Flaw) → AreSpelled heads → AreSpelled others → head_at rest ≡ Flawed flaw → flat_map head_bytes heads ++ rest ≡ flat_map head_bytes others ++ behind → length others ≤ length heads
+no_longer heads [] rest behind flaw s t f e = omega arith
+no_longer [] (h ∷ others) rest behind flaw s t f e =
+    absurd (begins_none flaw h (flat_map head_bytes others ++ behind) (sym f ∙ ap head_at e ∙ list_again h others behind t.0))
+no_longer (g ∷ heads) (h ∷ others) rest behind flaw s t f e =
+    let same = same_behind g h (flat_map head_bytes heads ++ rest) (flat_map head_bytes others ++ behind) (sym (list_again g heads rest s.0) ∙ ap head_at e ∙ list_again h others behind t.0) in
+    let less = no_longer heads others rest behind flaw s.1 t.1 f same in omega (arith, less)
+
 -- ---- what is found, and what is faulty
 
-abbrev pub Tells : List ℕ → Read → Type 0
+-- behind some open list of heads stands none, by this flaw
+record FlawBehind (bytes : List ℕ) (flaw : Flaw) (rest : List ℕ) : Type 0 where
+  heads : List Head
+  trees_open : IsOpenFrom 0 heads
+  front : bytes ≡ flat_map head_bytes heads ++ rest
+  flaw_is : head_at rest ≡ Flawed flaw
+
+longest_list : (bytes : List ℕ) (flaw : Flaw) (rest : List ℕ) → FlawBehind bytes flaw rest → HasFault bytes flaw rest
+longest_list bytes flaw rest f = record {
+  heads = f.heads;
+  begin = record { trees_open = f.trees_open; front = f.front };
+  longest = λ others behind b. no_longer f.heads others rest behind flaw (spelled_open 0 f.heads f.trees_open) (spelled_open 0 others b.trees_open) f.flaw_is (sym f.front ∙ b.front);
+  flaw_is = f.flaw_is;
+}
+
+abbrev Tells : List ℕ → Read → Type 0
 Tells bytes (Found tree rest) = HasSpelling tree × (bytes ≡ spelling tree ++ rest)
-Tells bytes (Faulty flaw rest) = HasFault bytes flaw rest
+Tells bytes (Faulty flaw rest) = FlawBehind bytes flaw rest
 
 all_behind : (xs ys : List ℕ) → AllBelowBase 256 (xs ++ ys) → AllBelowBase 256 ys
 all_behind [] ys h = h
@@ -85,7 +138,7 @@ tells_below (suc n) bytes h below =
     subst (Tells bytes) (sym (front_step bytes)) (tells_head tree_at_front n bytes (head_at bytes) (tells_below n) (omega arith) below refl (says_front bytes below))
 
 -- What the walk from the front tells is so.
-pub tells_front : (bytes : List ℕ) → AllBelowBase 256 bytes → Tells bytes (tree_at_front bytes)
+tells_front : (bytes : List ℕ) → AllBelowBase 256 bytes → Tells bytes (tree_at_front bytes)
 tells_front bytes below = tells_below (suc (length bytes)) bytes (omega arith) below
 
 -- A tree that is found is spelled there.
@@ -93,7 +146,7 @@ pub found_is_spelled : (bytes : List ℕ) (tree : Tree) (rest : List ℕ) → Al
 found_is_spelled bytes tree rest below e = subst (Tells bytes) e (tells_front bytes below)
 
 pub faulty_is_fault : (bytes : List ℕ) (flaw : Flaw) (rest : List ℕ) → AllBelowBase 256 bytes → tree_at_front bytes ≡ Faulty flaw rest → HasFault bytes flaw rest
-faulty_is_fault bytes flaw rest below e = subst (Tells bytes) e (tells_front bytes below)
+faulty_is_fault bytes flaw rest below e = longest_list bytes flaw rest (subst (Tells bytes) e (tells_front bytes below))
 
 -- ---- behind heads that leave trees open, the first flaw is that of what follows them
 
@@ -158,8 +211,11 @@ only_faulty : (heads : List Head) (flaw : Flaw) (rest : List ℕ) (read : Read) 
 only_faulty heads flaw rest read (inl e) = e
 only_faulty heads flaw rest read (inr f) = absurd (omega (arith, f.k_is))
 
--- Reading gives the flaw behind the open list of heads, at its place.
+-- Reading gives the flaw behind an open list of heads, at its place.
+pub flaw_is_found : FlawIsFound
+flaw_is_found bytes heads flaw rest begin flaw_is =
+    ap tree_at_front begin.front
+    ∙ only_faulty heads flaw rest (tree_at_front (flat_map head_bytes heads ++ rest)) (meets (suc (length heads)) 0 heads flaw rest (omega arith) begin.trees_open flaw_is)
+
 pub fault_is_faulty : (bytes : List ℕ) (flaw : Flaw) (rest : List ℕ) → HasFault bytes flaw rest → tree_at_front bytes ≡ Faulty flaw rest
-fault_is_faulty bytes flaw rest h =
-    ap tree_at_front h.front
-    ∙ only_faulty h.heads flaw rest (tree_at_front (flat_map head_bytes h.heads ++ rest)) (meets (suc (length h.heads)) 0 h.heads flaw rest (omega arith) h.trees_open h.flaw_is)
+fault_is_faulty bytes flaw rest h = flaw_is_found bytes h.heads flaw rest h.begin h.flaw_is

@@ -16,6 +16,7 @@ mod EvaluationRows
 mod OperatorRows
 mod TextRows
 mod ColumnRows
+pub mod SpendingLaws
 pub mod Steady
 pub mod Steps
 pub mod Columns
@@ -27,3 +28,4 @@ pub mod GrammarLaws
 pub mod FreePlaces
 pub mod AtomTextLaws
 pub mod PrintedLaws
+pub mod PathLaws

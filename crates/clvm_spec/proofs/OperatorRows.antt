@@ -108,6 +108,7 @@ sums :
     × wide "(- (q . 0) (q . -170141183460469231731687303715884105728))" "()"
     × wide "(- (q . 0) (q . -170141183460469231731687303715884105728) (q . 1))" "()"
     × fails "(- (q . (7)))" "()" (WrongOperand 0) "(- (q 7))"
+    × fails "(- (q . 1) (q . (7)))" "()" (WrongOperand 1) "(- (q . 1) (q 7))"
     × wide "(- (q . 1) (q . 0x0000000000000000000000000000000005))" "()"
     × gives "(> (q . 2) (q . 1))" "()" "1" 543 0 0
     × gives "(> (q . 1) (q . 2))" "()" "()" 543 0 0
@@ -120,7 +121,7 @@ sums :
     × fails "(> (q . 1) (q . (7)))" "()" (WrongOperand 1) "(> (q . 1) (q 7))"
     × wide "(> (q . 0x0000000000000000000000000000000005) (q . 1))" "()"
 unfolding without_sign_bytes shortest_atom followed applied operator_of operator_named evaluation token_of word_token scanned
-sums = (refl, refl, refl, refl, refl, refl, refl, refl, refl, refl, refl, refl, refl, refl, refl, refl, refl, refl, refl, refl, refl, refl, refl, refl, refl, refl, refl, refl, refl, refl, refl)
+sums = (refl, refl, refl, refl, refl, refl, refl, refl, refl, refl, refl, refl, refl, refl, refl, refl, refl, refl, refl, refl, refl, refl, refl, refl, refl, refl, refl, refl, refl, refl, refl, refl)
 
 -- *, /, divmod.
 products :
@@ -136,6 +137,7 @@ products :
     × wide "(* (q . -170141183460469231731687303715884105728) (q . -1))" "()"
     × gives "(* (q . 0x7fffffffffffffffffffffffffffffff) (q . 0x00000000000000000000000000000001))" "()" "0x7fffffffffffffffffffffffffffffff" 1372 0 24
     × fails "(* (q . 1) (q . (7)))" "()" (WrongOperand 1) "(* (q . 1) (q 7))"
+    × fails "(* (q . (7)) (q . 1))" "()" (WrongOperand 0) "(* (q 7) (q . 1))"
     × wide "(* (q . 0x0000000000000000000000000000000005) (q . (7)))" "()"
     × gives "(/ (q . 7) (q . 2))" "()" "3" 1047 0 9
     × gives "(/ (q . -7) (q . 2))" "()" "-4" 1047 0 9
@@ -169,7 +171,7 @@ products :
     × fails "(divmod (q . 1) (q . (7)))" "()" (WrongOperand 1) "(divmod (q . 1) (q 7))"
     × wide "(divmod (q . 0x0000000000000000000000000000000005) (q . 1))" "()"
 unfolding without_sign_bytes shortest_atom followed applied operator_of operator_named evaluation token_of word_token scanned
-products = (refl, refl, refl, refl, refl, refl, refl, refl, refl, refl, refl, refl, refl, refl, refl, refl, refl, refl, refl, refl, refl, refl, refl, refl, refl, refl, refl, refl, refl, refl, refl, refl, refl, refl, refl, refl, refl, refl, refl, refl, refl, refl, refl, refl)
+products = (refl, refl, refl, refl, refl, refl, refl, refl, refl, refl, refl, refl, refl, refl, refl, refl, refl, refl, refl, refl, refl, refl, refl, refl, refl, refl, refl, refl, refl, refl, refl, refl, refl, refl, refl, refl, refl, refl, refl, refl, refl, refl, refl, refl, refl)
 
 -- ash, lsh.
 shifts :
@@ -258,6 +260,8 @@ bits_and_truth = (refl, refl, refl, refl, refl, refl, refl, refl, refl, refl, re
 hashes :
     gives "(sha256 (q . 'abc'))" "()" "0xba7816bf8f01cfea414140de5dae2223b00361a396177a9cb410ff61f20015ad" 568 0 40
     × gives "(sha256 (q . 'a') (q . 'bc'))" "()" "0xba7816bf8f01cfea414140de5dae2223b00361a396177a9cb410ff61f20015ad" 722 0 40
+    × gives "(sha256 (q . 0x0000000000000000000000000000000005))" "()" "0x94e6c67630c0b5fd9b3aee76be2b21ce49b1aa285055ce81cffe8bab8053af77" 596 0 40
+    × fails "(sha256 (q . (7)) (q . 1))" "()" (WrongOperand 0) "(sha256 (q 7) (q . 1))"
     × fails "(sha256 (q . 1) (q . (7)))" "()" (WrongOperand 1) "(sha256 (q . 1) (q 7))"
 unfolding without_sign_bytes shortest_atom followed applied operator_of operator_named evaluation token_of word_token scanned sha256 digest_bytes hash_after compress rounds schedule first_words
-hashes = (refl, refl, refl)
+hashes = (refl, refl, refl, refl, refl)

@@ -2,8 +2,8 @@
 use Rattle.std.proofs.Common.{◌≡◌, ℕ, ◌+◌, ◌*◌, ◌-◌, ◌/◌, ◌%◌, ◌^◌, ◌<◌, ◌≤◌, true, false, nat_lt, List, [], ◌∷◌, ◌++◌, refl, ◌∙◌, ap, ⊎_elim, arith}
 use Rattle.std.proofs.lemmas.Bool.{cases_lt}
 use Rattle.std.proofs.lemmas.Bool.Decides.{nat_tests}
-use Rattle.clvm_spec.specs.Spelling.{prefix, four_bytes}
-use Rattle.clvm_spec.specs.Reading.{atom_behind, long_atom, behind_two, behind_three, behind_four, head_at}
+use Rattle.clvm_spec.specs.Spelling.{prefix}
+use Rattle.clvm_spec.specs.Reading.{atom_behind, long_atom, prefixed, head_at}
 
 ltb_yes : (m n : ℕ) → m < n → nat_lt m n ≡ true
 ltb_yes m n h = grind (arith, nat_tests)
@@ -15,15 +15,15 @@ pub at_80 : (b : ℕ) (rest : List ℕ) → 0x80 ≤ b → b < 0xc0 → head_at 
 unfolding head_at
 at_80 b rest low high = rw (ltb_no b 0x80 low, ltb_yes b 0xc0 high) refl
 
-pub at_c0 : (b : ℕ) (rest : List ℕ) → 0xc0 ≤ b → b < 0xe0 → head_at (b ∷ rest) ≡ behind_two (b - 0xc0) rest
+pub at_c0 : (b : ℕ) (rest : List ℕ) → 0xc0 ≤ b → b < 0xe0 → head_at (b ∷ rest) ≡ prefixed 1 0x40 (b - 0xc0) rest
 unfolding head_at
 at_c0 b rest low high = rw (ltb_no b 0x80 (omega arith), ltb_no b 0xc0 low, ltb_yes b 0xe0 high) refl
 
-pub at_e0 : (b : ℕ) (rest : List ℕ) → 0xe0 ≤ b → b < 0xf0 → head_at (b ∷ rest) ≡ behind_three (b - 0xe0) rest
+pub at_e0 : (b : ℕ) (rest : List ℕ) → 0xe0 ≤ b → b < 0xf0 → head_at (b ∷ rest) ≡ prefixed 2 0x2000 (b - 0xe0) rest
 unfolding head_at
 at_e0 b rest low high = rw (ltb_no b 0x80 (omega arith), ltb_no b 0xc0 (omega arith), ltb_no b 0xe0 low, ltb_yes b 0xf0 high) refl
 
-pub at_f0 : (b : ℕ) (rest : List ℕ) → 0xf0 ≤ b → b < 0xf8 → head_at (b ∷ rest) ≡ behind_four (b - 0xf0) rest
+pub at_f0 : (b : ℕ) (rest : List ℕ) → 0xf0 ≤ b → b < 0xf8 → head_at (b ∷ rest) ≡ prefixed 3 0x10_0000 (b - 0xf0) rest
 unfolding head_at
 at_f0 b rest low high = rw (ltb_no b 0x80 (omega arith), ltb_no b 0xc0 (omega arith), ltb_no b 0xe0 (omega arith), ltb_no b 0xf0 low, ltb_yes b 0xf8 high) refl
 
@@ -63,7 +63,7 @@ prefix_two size low h = rw (ltb_no size 0x40 low, ltb_yes size 0x2000 h) refl
 pub prefix_three : (size : ℕ) → 0x2000 ≤ size → size < 0x10_0000 → prefix size ≡ (0xe0 + size / 2 ^ 16) ∷ (size / 256 % 256) ∷ (size % 256) ∷ []
 prefix_three size low h = rw (ltb_no size 0x40 (omega arith), ltb_no size 0x2000 low, ltb_yes size 0x10_0000 h) refl
 
-pub prefix_four : (size : ℕ) → 0x10_0000 ≤ size → prefix size ≡ four_bytes size
+pub prefix_four : (size : ℕ) → 0x10_0000 ≤ size → prefix size ≡ (0xf0 + size / 2 ^ 24) ∷ (size / 2 ^ 16 % 256) ∷ (size / 256 % 256) ∷ (size % 256) ∷ []
 prefix_four size low = rw (ltb_no size 0x40 (omega arith), ltb_no size 0x2000 (omega arith), ltb_no size 0x10_0000 low) refl
 
 -- Behind the prefix of a length stands an atom of that length.

@@ -316,7 +316,7 @@ scanned_is text = refl
 pub printed_is_scanned : PrintedIsScanned
 printed_is_scanned tree h e =
     scanned_is (printed tree) ∙ ap (whole (printed tree)) (subst (λ t. Meets t tree [] (form_of (printed tree))) e (printed_form tree h))
-    ∙ ap (at_last (printed tree) tree) none_left
+    ∙ ap (at_last (printed tree) (Names tree)) none_left
 
 pub printed_too_deep : PrintedTooDeep
 printed_too_deep tree h e =

@@ -1,13 +1,13 @@
 -- Atoms of numbers, and the shortest of them.
-use Rattle.std.proofs.Common.{◌≡◌, ℕ, zero, suc, ◌+◌, ◌*◌, ◌-◌, ◌/◌, ◌%◌, ◌^◌, ◌<◌, ◌≤◌, ◌==◌, ◌&&◌, ◌||◌, ◌⊎◌, true, false, cond, nat_lt, nat_le, List, [], ◌∷◌, ◌++◌, length, map, get_or, replicate, ℤ, pos, negsuc, FitsSigned, refl, sym, ◌∙◌, ap, subst, inl, inr, ⊎_elim, arith}
+use Rattle.std.proofs.Common.{◌≡◌, ℕ, zero, suc, ◌+◌, ◌*◌, ◌-◌, ◌/◌, ◌%◌, ◌^◌, ◌<◌, ◌≤◌, ◌==◌, ◌&&◌, ◌||◌, ◌⊎◌, Bool, true, false, not, cond, nat_lt, List, [], ◌∷◌, ◌++◌, length, map, get_or, replicate, ℤ, pos, negsuc, FitsSigned, refl, sym, ◌∙◌, ap, subst, inl, inr, ⊎_elim, arith}
 use Rattle.std.specs.Int.{w128, to_be_bytes, bytes_high_first, byte_at, cast_unsigned}
 use Rattle.std.specs.Int.Digits.{AllBelowBase, number_from_digits_after}
 use Rattle.std.proofs.lemmas.List.{length-append, length-map, length-replicate}
-use Rattle.std.proofs.lemmas.Bool.{ltb-true, leb-true, eqb-true, lt-ltb, le-ltb, le-leb, or_cases, and_parts, cases_lt, cases_Bool}
+use Rattle.std.proofs.lemmas.Bool.{ltb-true, ltb-false, eqb-true, lt-ltb, le-ltb, or_cases, and_parts, cases_lt, cases_Bool}
 use Rattle.std.proofs.lemmas.Int.Digits.{number_lt, number_push}
 use Rattle.std.proofs.lemmas.Nat.{same_from_place, div_below, div-add-mod'}
 use Rattle.std.proofs.Math.Nat.{pow-suc, div-div-eq-div-mul, add-mul}
-use Rattle.clvm_spec.specs.Numbers.{unsigned, number, has_sign_byte, without_sign_bytes, shortest_atom}
+use Rattle.clvm_spec.specs.Numbers.{unsigned, number, is_natural, has_sign_byte, without_sign_bytes, shortest_atom}
 
 -- ---- digits
 
@@ -94,11 +94,15 @@ number_high (x ∷ xs) some h = ap (λ t. cond t (pos (unsigned (x ∷ xs))) (ne
 abbrev SignByte : ℕ → ℕ → Type 0
 SignByte b c = ((b ≡ 0) × (c < 128)) ⊎ ((b ≡ 255) × (128 ≤ c))
 
+not_true : (b : Bool) → not b ≡ true → b ≡ false
+not_true true e = absurd cc
+not_true false e = refl
+
 sign_byte : (b c : ℕ) (bytes : List ℕ) → has_sign_byte (b ∷ c ∷ bytes) ≡ true → SignByte b c
 sign_byte b c bytes h = ⊎_elim
     (λ (l : (b == 0 && nat_lt c 0x80) ≡ true). let p = and_parts (b == 0) (nat_lt c 0x80) l in inl (eqb-true b 0 p.0, ltb-true c 0x80 p.1))
-    (λ (r : (b == 255 && nat_le 0x80 c) ≡ true). let p = and_parts (b == 255) (nat_le 0x80 c) r in inr (eqb-true b 255 p.0, leb-true 0x80 c p.1))
-    (or_cases (b == 0 && nat_lt c 0x80) (b == 255 && nat_le 0x80 c) h)
+    (λ (r : (b == 255 && not (is_natural c)) ≡ true). let p = and_parts (b == 255) (not (is_natural c)) r in inr (eqb-true b 255 p.0, ltb-false c 0x80 (not_true (is_natural c) p.1)))
+    (or_cases (b == 0 && is_natural c) (b == 255 && not (is_natural c)) h)
 
 unsigned-zero : (bytes : List ℕ) → unsigned (0 ∷ bytes) ≡ unsigned bytes
 unsigned-zero bytes = omega (arith, unsigned-cons 0 bytes)
@@ -197,10 +201,10 @@ abbrev SignOf : ℕ → List ℕ → Type 0
 SignOf sign bytes = has_sign_byte (sign ∷ bytes) ≡ true
 
 zero_sign : (c : ℕ) (bytes : List ℕ) → c < 128 → SignOf 0 (c ∷ bytes)
-zero_sign c bytes h = ap (λ t. (true && t) || (0 == 255 && nat_le 0x80 c)) (lt-ltb c 128 h)
+zero_sign c bytes h = ap (λ t. (true && t) || (0 == 255 && not (is_natural c))) (lt-ltb c 128 h)
 
 full_sign : (c : ℕ) (bytes : List ℕ) → 128 ≤ c → SignOf 255 (c ∷ bytes)
-full_sign c bytes h = ap (λ t. (255 == 0 && nat_lt c 0x80) || (true && t)) (le-leb 128 c h)
+full_sign c bytes h = ap (λ t. (255 == 0 && is_natural c) || (true && not t)) (le-ltb c 128 h)
 
 filled_zero : (n : ℕ) (bytes : List ℕ) → SignOf 0 bytes → SignOf 0 (fill 0 n bytes)
 filled_zero zero bytes h = h

@@ -2,10 +2,11 @@
 use Rattle.std.proofs.Common.{◌≡◌, ℕ, ◌+◌, ◌*◌, ◌-◌, ◌/◌, ◌%◌, ◌^◌, ◌<◌, ◌≤◌, ◌==◌, Bool, true, false, cond, nat_lt, List, [], ◌∷◌, ◌++◌, length, take, drop, refl, sym, ◌∙◌, ap, subst, arith, append_assoc}
 use Rattle.std.specs.Int.Digits.{AllBelowBase}
 use Rattle.std.proofs.lemmas.List.{length-append, length-take-le, take-append-drop, take_at, drop_at}
+use Rattle.std.proofs.lemmas.Bool.{cond-true}
 use Rattle.std.proofs.lemmas.Bool.Decides.{nat_tests}
 use Rattle.clvm_spec.specs.Tree.{Tree, Atom, Pair}
 use Rattle.clvm_spec.specs.Spelling.{prefix, atom_spelling, spelling, HasSpelling}
-use Rattle.clvm_spec.specs.Reading.{Cut, LongSpelling, BadPrefix, Head, PairMark, Leaf, Beginning, Begins, Flawed, leaf, atom_behind, long_atom, behind_two, behind_three, behind_four, from_f8, from_f0, from_e0, from_c0, from_80, head_at, Found, with_first, with_both, tree_at_front}
+use Rattle.clvm_spec.specs.Reading.{Cut, LongSpelling, BadPrefix, Head, PairMark, Leaf, Beginning, Begins, Flawed, leaf, atom_behind, long_atom, prefixed, head_at, Found, with_first, with_both, tree_at_front}
 use Rattle.clvm_spec.proofs.PrefixLaws.{at_80, prefix_one, prefix_two, prefix_three, prefix_four, head_at-prefix}
 use Rattle.clvm_spec.proofs.FrontLaws.{front_leaf, front_open}
 
@@ -19,7 +20,7 @@ atom_here atom rest =
 
 one_byte : (b : ℕ) (rest : List ℕ) (test : Bool) → nat_lt b 0x80 ≡ test → head_at (cond test (b ∷ []) (0x81 ∷ b ∷ []) ++ rest) ≡ Begins (Leaf (b ∷ [])) rest
 unfolding head_at
-one_byte b rest true e = ap (λ t. cond t (Begins (Leaf (b ∷ [])) rest) (from_80 b rest)) e
+one_byte b rest true e = cond-true (nat_lt b 0x80) _ _ e
 one_byte b rest false e = atom_here (b ∷ []) rest ∙ ap (λ t. cond t (Flawed LongSpelling) (Begins (Leaf (b ∷ [])) rest)) e
 
 pub head_at-atom : (atom rest : List ℕ) → length atom < 2 ^ 27 → head_at (atom_spelling atom ++ rest) ≡ Begins (Leaf atom) rest
@@ -79,7 +80,7 @@ says_long least size behind bytes h e =
     says_if bytes (nat_lt size least) (Flawed LongSpelling) (atom_behind size behind) (λ t. tt)
     (λ t. let enough : least ≤ size = grind (arith, nat_tests) in says_atom size behind bytes h (e enough))
 
-says_two : (high : ℕ) (rest : List ℕ) → high < 32 → AllBelowBase 256 rest → Says ((0xc0 + high) ∷ rest) (behind_two high rest)
+says_two : (high : ℕ) (rest : List ℕ) → high < 32 → AllBelowBase 256 rest → Says ((0xc0 + high) ∷ rest) (prefixed 1 0x40 high rest)
 says_two high [] h all = tt
 says_two high (b ∷ rest) h all =
     let size = high * 256 + b in
@@ -90,7 +91,7 @@ says_two high (b ∷ rest) h all =
     says_long 0x40 size rest ((0xc0 + high) ∷ b ∷ rest) (omega arith)
     (λ low. ap (λ n. n ∷ b ∷ rest) first ∙ ap (λ n. (0xc0 + size / 256) ∷ n ∷ rest) second ∙ ap (λ p. p ++ rest) (sym (prefix_two size low small)))
 
-says_three : (high : ℕ) (rest : List ℕ) → high < 16 → AllBelowBase 256 rest → Says ((0xe0 + high) ∷ rest) (behind_three high rest)
+says_three : (high : ℕ) (rest : List ℕ) → high < 16 → AllBelowBase 256 rest → Says ((0xe0 + high) ∷ rest) (prefixed 2 0x2000 high rest)
 says_three high [] h all = tt
 says_three high (b ∷ []) h all = tt
 says_three high (b ∷ c ∷ rest) h all =
@@ -105,7 +106,7 @@ says_three high (b ∷ c ∷ rest) h all =
     (λ low. ap (λ n. n ∷ b ∷ c ∷ rest) first ∙ ap (λ n. (0xe0 + size / 2 ^ 16) ∷ n ∷ c ∷ rest) second
     ∙ ap (λ n. (0xe0 + size / 2 ^ 16) ∷ (size / 256 % 256) ∷ n ∷ rest) third ∙ ap (λ p. p ++ rest) (sym (prefix_three size low small)))
 
-says_four : (high : ℕ) (rest : List ℕ) → high < 8 → AllBelowBase 256 rest → Says ((0xf0 + high) ∷ rest) (behind_four high rest)
+says_four : (high : ℕ) (rest : List ℕ) → high < 8 → AllBelowBase 256 rest → Says ((0xf0 + high) ∷ rest) (prefixed 3 0x10_0000 high rest)
 says_four high [] h all = tt
 says_four high (b ∷ []) h all = tt
 says_four high (b ∷ c ∷ []) h all = tt
@@ -132,29 +133,29 @@ says_byte : (b : ℕ) (rest : List ℕ) → AllBelowBase 256 rest → Says (b �
 unfolding head_at
 says_byte b rest all =
     let bytes = b ∷ rest in
-    says_if bytes (nat_lt b 0x80) (Begins (Leaf (b ∷ [])) rest) (from_80 b rest)
+    says_if bytes (nat_lt b 0x80) (Begins (Leaf (b ∷ [])) rest) _
     (λ t. (omega arith, sym (ap (λ c. cond c (b ∷ []) (0x81 ∷ b ∷ []) ++ rest) t)))
-    (λ t. says_if bytes (nat_lt b 0xc0) (atom_behind (b - 0x80) rest) (from_c0 b rest)
+    (λ t. says_if bytes (nat_lt b 0xc0) (atom_behind (b - 0x80) rest) _
     (λ t'.
     let low : 0x80 ≤ b = grind (arith, nat_tests) in
     let high : b < 0xc0 = grind (arith, nat_tests) in
     let byte : b ≡ 0x80 + (b - 0x80) = omega arith in
     says_atom (b - 0x80) rest bytes (omega arith) (ap (λ n. n ∷ rest) byte ∙ ap (λ p. p ++ rest) (sym (prefix_one (b - 0x80) (omega arith)))))
-    (λ t'. says_if bytes (nat_lt b 0xe0) (behind_two (b - 0xc0) rest) (from_e0 b rest)
+    (λ t'. says_if bytes (nat_lt b 0xe0) (prefixed 1 0x40 (b - 0xc0) rest) _
     (λ u.
     let low : 0xc0 ≤ b = grind (arith, nat_tests) in
     let high : b < 0xe0 = grind (arith, nat_tests) in
-    says_high 0xc0 b rest (behind_two (b - 0xc0) rest) low (says_two (b - 0xc0) rest (omega arith) all))
-    (λ u. says_if bytes (nat_lt b 0xf0) (behind_three (b - 0xe0) rest) (from_f0 b rest)
+    says_high 0xc0 b rest (prefixed 1 0x40 (b - 0xc0) rest) low (says_two (b - 0xc0) rest (omega arith) all))
+    (λ u. says_if bytes (nat_lt b 0xf0) (prefixed 2 0x2000 (b - 0xe0) rest) _
     (λ u'.
     let low : 0xe0 ≤ b = grind (arith, nat_tests) in
     let high : b < 0xf0 = grind (arith, nat_tests) in
-    says_high 0xe0 b rest (behind_three (b - 0xe0) rest) low (says_three (b - 0xe0) rest (omega arith) all))
-    (λ u'. says_if bytes (nat_lt b 0xf8) (behind_four (b - 0xf0) rest) (from_f8 b rest)
+    says_high 0xe0 b rest (prefixed 2 0x2000 (b - 0xe0) rest) low (says_three (b - 0xe0) rest (omega arith) all))
+    (λ u'. says_if bytes (nat_lt b 0xf8) (prefixed 3 0x10_0000 (b - 0xf0) rest) _
     (λ v.
     let low : 0xf0 ≤ b = grind (arith, nat_tests) in
     let high : b < 0xf8 = grind (arith, nat_tests) in
-    says_high 0xf0 b rest (behind_four (b - 0xf0) rest) low (says_four (b - 0xf0) rest (omega arith) all))
+    says_high 0xf0 b rest (prefixed 3 0x10_0000 (b - 0xf0) rest) low (says_four (b - 0xf0) rest (omega arith) all))
     (λ v. says_if bytes (b == 0xff) (Begins PairMark rest) (Flawed BadPrefix)
     (λ w. let e : b ≡ 0xff = grind (arith, nat_tests) in ap (λ n. n ∷ rest) e)
     (λ w. tt))))))

@@ -1,21 +1,23 @@
 -- What a run makes of its fuel, along the definition of evaluation: the laws on fuel but the bound on steps.
-use Rattle.std.proofs.Common.{◌≡◌, ℕ, zero, suc, ◌+◌, ◌-◌, ◌≤◌, Bool, true, false, cond, ltb, List, [], ◌∷◌, Option, Some, None, refl, sym, ap, ◌∙◌, subst, arith}
-use Rattle.std.proofs.lemmas.Bool.{ltb-true, ltb-false, lt-ltb, le-ltb, cond-true, cond-false, cond_both}
+use Rattle.std.proofs.Common.{◌≡◌, ℕ, zero, suc, ◌+◌, ◌-◌, ◌<◌, ◌≤◌, Bool, true, false, cond, ltb, nat_lt, nat_le, ⊎_elim, List, [], ◌∷◌, length, Option, Some, None, refl, sym, ap, ◌∙◌, subst, arith}
+use Rattle.std.proofs.lemmas.Bool.{and_cases, and_left, and_right, ltb-false, le-ltb, cond-false, cond_both}
+use Rattle.std.proofs.lemmas.Bool.Decides.{nat_tests}
 use Rattle.clvm_spec.specs.declared.fuel.Fuel.{Fuel}
 use Rattle.clvm_spec.specs.declared.fuel.Which.{Which}
-use Rattle.clvm_spec.specs.declared.fuel.Which.TheVariants.{Cost, Pairs, Bytes, Depth}
+use Rattle.clvm_spec.specs.declared.fuel.Which.TheVariants.{Cost, Depth}
 use Rattle.clvm_spec.specs.Tree.{Tree, Atom, Pair, nil}
 use Rattle.clvm_spec.specs.ProperList.{elements}
 use Rattle.clvm_spec.specs.Path.{PathValue, Reached, Astray, path_value, path_cost}
-use Rattle.clvm_spec.specs.Outcomes.{Why, NoOperator, WrongCount, NotAList, NoStep, Applied, Gives, Fails, TooWide, WithinFuel, Outcome, Done, Failed, Spent, Wide}
-use Rattle.clvm_spec.specs.OperatorTable.{quote_cost, apply_cost, applied, within}
-use Rattle.clvm_spec.specs.Evaluation.{if_done, charge, is_byte, at_path, Evaluator, goes_on, in_form, apply_values, values_of, deeper, operator_form, evaluated_by, evaluated_within}
-use Rattle.clvm_spec.specs.Spending.{Spending, Suffices, fuel_less}
+use Rattle.clvm_spec.specs.Outcomes.{Why, NoOperator, WrongCount, NotAList, NoStep, Applied, Gives, Fails, TooWide, Enough, Outcome, Done, Failed, Spent, Wide}
+use Rattle.clvm_spec.specs.OperatorTable.{quote_cost, apply_cost, applied, unless_lacking, within}
+use Rattle.clvm_spec.specs.Evaluation.{if_done, charge, is_byte, at_path, Evaluator, goes_on, in_form, apply_values, values_of, is_too_deep, deeper, operator_form, evaluated_by, evaluated_within}
+use Rattle.clvm_spec.specs.Spending.{Spending, lack, fuel_less}
 use Rattle.clvm_spec.specs.FuelLaws.{IsAtLeast}
+use Rattle.clvm_spec.proofs.SpendingLaws.{Covers, covers, covered}
 
 -- an outcome with this fuel, and what it is with other fuel
 pub data Kept (run : Fuel → Outcome) (fuel : Fuel) : Outcome → Type 0 where
-  done : (value : Tree) (spending : Spending) → Suffices fuel spending → ((other : Fuel) → Suffices other spending → fuel.depth ≤ other.depth → run other ≡ Done value (fuel_less spending other)) → Kept run fuel (Done value (fuel_less spending fuel))
+  done : (value : Tree) (spending : Spending) → Covers fuel spending → ((other : Fuel) → Covers other spending → fuel.depth ≤ other.depth → run other ≡ Done value (fuel_less spending other)) → Kept run fuel (Done value (fuel_less spending fuel))
   failed : (why : Why) (form : Tree) → ((more : Fuel) → IsAtLeast more fuel → run more ≡ Failed why form) → Kept run fuel (Failed why form)
   spent : (which : Which) → Kept run fuel (Spent which)
   wide : ((more : Fuel) → IsAtLeast more fuel → run more ≡ Wide) → Kept run fuel Wide
@@ -40,18 +42,18 @@ fuel_less-both a b fuel = same_fuel _ _ (omega arith) (omega arith) (omega arith
 fuel_less-no_spending : (fuel : Fuel) → fuel_less no_spending fuel ≡ fuel
 fuel_less-no_spending fuel = same_fuel _ _ (omega arith) (omega arith) (omega arith) refl
 
-suffices_both : (a b : Spending) (fuel : Fuel) → Suffices fuel a → Suffices (fuel_less a fuel) b → Suffices fuel (both a b)
-suffices_both a b fuel h k = let hc = h.cost in let kc = k.cost in let hp = h.pairs in let kp = k.pairs in let hb = h.bytes in let kb = k.bytes in
+covers_both : (a b : Spending) (fuel : Fuel) → Covers fuel a → Covers (fuel_less a fuel) b → Covers fuel (both a b)
+covers_both a b fuel h k = let hc = h.cost in let kc = k.cost in let hp = h.pairs in let kp = k.pairs in let hb = h.bytes in let kb = k.bytes in
     record { cost = omega arith; pairs = omega arith; bytes = omega arith }
 
-suffices_first : (a b : Spending) (fuel : Fuel) → Suffices fuel (both a b) → Suffices fuel a
-suffices_first a b fuel h = let c = h.cost in let p = h.pairs in let y = h.bytes in record { cost = omega arith; pairs = omega arith; bytes = omega arith }
+covers_first : (a b : Spending) (fuel : Fuel) → Covers fuel (both a b) → Covers fuel a
+covers_first a b fuel h = let c = h.cost in let p = h.pairs in let y = h.bytes in record { cost = omega arith; pairs = omega arith; bytes = omega arith }
 
-suffices_second : (a b : Spending) (fuel : Fuel) → Suffices fuel (both a b) → Suffices (fuel_less a fuel) b
-suffices_second a b fuel h = let c = h.cost in let p = h.pairs in let y = h.bytes in record { cost = omega arith; pairs = omega arith; bytes = omega arith }
+covers_second : (a b : Spending) (fuel : Fuel) → Covers fuel (both a b) → Covers (fuel_less a fuel) b
+covers_second a b fuel h = let c = h.cost in let p = h.pairs in let y = h.bytes in record { cost = omega arith; pairs = omega arith; bytes = omega arith }
 
-suffices_more : (spending : Spending) (fuel more : Fuel) → Suffices fuel spending → IsAtLeast more fuel → Suffices more spending
-suffices_more spending fuel more h m = record { cost = omega arith; pairs = omega arith; bytes = omega arith }
+covers_more : (spending : Spending) (fuel more : Fuel) → Covers fuel spending → IsAtLeast more fuel → Covers more spending
+covers_more spending fuel more h m = record { cost = omega arith; pairs = omega arith; bytes = omega arith }
 
 at_least_less : (spending : Spending) (fuel more : Fuel) → IsAtLeast more fuel → IsAtLeast (fuel_less spending more) (fuel_less spending fuel)
 at_least_less spending fuel more m = record { cost = omega arith; pairs = omega arith; bytes = omega arith; depth = m.depth }
@@ -62,16 +64,16 @@ module _ (run : Fuel → Outcome) (go : Tree → Fuel → Outcome) where
   abbrev then_run : Fuel → Outcome
   then_run fuel = if_done (run fuel) go
 
-  second : (fuel : Fuel) (value : Tree) (spending : Spending) → Suffices fuel spending → ((other : Fuel) → Suffices other spending → fuel.depth ≤ other.depth → run other ≡ Done value (fuel_less spending other)) → (o : Outcome) → Kept (go value) (fuel_less spending fuel) o → Kept then_run fuel o
+  second : (fuel : Fuel) (value : Tree) (spending : Spending) → Covers fuel spending → ((other : Fuel) → Covers other spending → fuel.depth ≤ other.depth → run other ≡ Done value (fuel_less spending other)) → (o : Outcome) → Kept (go value) (fuel_less spending fuel) o → Kept then_run fuel o
   second fuel value spending h all o (done w later h2 all2) =
       subst (λ (l : Fuel). Kept then_run fuel (Done w l)) (sym (fuel_less-both spending later fuel))
-      (done w (both spending later) (suffices_both spending later fuel h h2)
-      (λ other s d. ap (λ o. if_done o go) (all other (suffices_first spending later other s) d) ∙ all2 (fuel_less spending other) (suffices_second spending later other s) d ∙ ap (λ l. Done w l) (fuel_less-both spending later other)))
+      (done w (both spending later) (covers_both spending later fuel h h2)
+      (λ other s d. ap (λ o. if_done o go) (all other (covers_first spending later other s) d) ∙ all2 (fuel_less spending other) (covers_second spending later other s) d ∙ ap (λ l. Done w l) (fuel_less-both spending later other)))
   second fuel value spending h all o (failed why form k) =
-      failed why form (λ more m. ap (λ o. if_done o go) (all more (suffices_more spending fuel more h m) m.depth) ∙ k (fuel_less spending more) (at_least_less spending fuel more m))
+      failed why form (λ more m. ap (λ o. if_done o go) (all more (covers_more spending fuel more h m) m.depth) ∙ k (fuel_less spending more) (at_least_less spending fuel more m))
   second fuel value spending h all o (spent which) = spent which
   second fuel value spending h all o (wide k) =
-      wide (λ more m. ap (λ o. if_done o go) (all more (suffices_more spending fuel more h m) m.depth) ∙ k (fuel_less spending more) (at_least_less spending fuel more m))
+      wide (λ more m. ap (λ o. if_done o go) (all more (covers_more spending fuel more h m) m.depth) ∙ k (fuel_less spending more) (at_least_less spending fuel more m))
 
   first_then : ((value : Tree) → IsSteady (go value)) → (fuel : Fuel) (o : Outcome) → Kept run fuel o → Kept then_run fuel (if_done o go)
   first_then steady fuel o (done value spending h all) = second fuel value spending h all (go value (fuel_less spending fuel)) (steady value (fuel_less spending fuel))
@@ -87,8 +89,8 @@ module _ (run : Fuel → Outcome) (go : Tree → Fuel → Outcome) where
 pays : ℕ → Fuel → Outcome
 pays cost fuel = cond (ltb fuel.cost cost) (Spent Cost) (Done nil (record fuel { cost = fuel.cost - cost }))
 
-may_go_deeper : ℕ → Fuel → Outcome
-may_go_deeper depth fuel = cond (ltb depth fuel.depth) (Done nil fuel) (Spent Depth)
+may_go_deeper : (count depth : ℕ) → Fuel → Outcome
+may_go_deeper count depth fuel = cond (is_too_deep count depth fuel.depth) (Spent Depth) (Done nil fuel)
 
 paid_is : (cost : ℕ) (fuel : Fuel) → record fuel { cost = fuel.cost - cost } ≡ fuel_less (record { cost = cost; pairs = 0; bytes = 0 }) fuel
 paid_is cost fuel = same_fuel _ _ refl (omega arith) (omega arith) refl
@@ -103,14 +105,24 @@ steady_pays cost fuel =
     (let h = ltb-false fuel.cost cost e in record { cost = h; pairs = omega arith; bytes = omega arith })
     (λ other s d. cond-false (ltb other.cost cost) _ _ (le-ltb other.cost cost s.cost) ∙ ap (λ l. Done nil l) (paid_is cost other))))
 
-steady_may_go_deeper : (depth : ℕ) → IsSteady (may_go_deeper depth)
+above_limit : (depth limit more : ℕ) → limit ≤ more → nat_le limit depth ≡ false → nat_le more depth ≡ false
+above_limit depth limit more h e = let below : depth < limit = grind (arith, nat_tests) in grind (arith, nat_tests)
+
+-- A higher limit isn't met before a lower one.
+deep_no_more : (count depth limit more : ℕ) → limit ≤ more → is_too_deep count depth limit ≡ false → is_too_deep count depth more ≡ false
+deep_no_more count depth limit more h e =
+    ⊎_elim (λ (none : nat_lt 0 count ≡ false). and_left (nat_lt 0 count) (nat_le more depth) none)
+    (λ (below : nat_le limit depth ≡ false). and_right (nat_lt 0 count) (nat_le more depth) (above_limit depth limit more h below))
+    (and_cases (nat_lt 0 count) (nat_le limit depth) e)
+
+steady_may_go_deeper : (count depth : ℕ) → IsSteady (may_go_deeper count depth)
 unfolding may_go_deeper
-steady_may_go_deeper depth fuel =
-    cond_both (ltb depth fuel.depth) (Done nil fuel) (Spent Depth) (λ o. Kept (may_go_deeper depth) fuel o)
-    (λ e. subst (λ (l : Fuel). Kept (may_go_deeper depth) fuel (Done nil l)) (fuel_less-no_spending fuel)
-    (done nil no_spending (record { cost = omega arith; pairs = omega arith; bytes = omega arith })
-    (λ other s d. let h = ltb-true depth fuel.depth e in cond-true (ltb depth other.depth) _ _ (lt-ltb depth other.depth (omega arith)) ∙ ap (λ l. Done nil l) (sym (fuel_less-no_spending other)))))
+steady_may_go_deeper count depth fuel =
+    cond_both (is_too_deep count depth fuel.depth) (Spent Depth) (Done nil fuel) (λ o. Kept (may_go_deeper count depth) fuel o)
     (λ e. spent Depth)
+    (λ e. subst (λ (l : Fuel). Kept (may_go_deeper count depth) fuel (Done nil l)) (fuel_less-no_spending fuel)
+    (done nil no_spending (record { cost = omega arith; pairs = omega arith; bytes = omega arith })
+    (λ other s d. cond-false (is_too_deep count depth other.depth) _ _ (deep_no_more count depth fuel.depth other.depth d e) ∙ ap (λ l. Done nil l) (sym (fuel_less-no_spending other)))))
 
 same_steady : (run other : Fuel → Outcome) → ((fuel : Fuel) → run fuel ≡ other fuel) → IsSteady run → IsSteady other
 same_steady run other same p = let e : run ≡ other = λ i fuel. same fuel i in subst IsSteady e p
@@ -127,10 +139,9 @@ steady_charge cost go p =
 
 steady_deeper : (operands : List Tree) (depth : ℕ) (go : Fuel → Outcome) → IsSteady go → IsSteady (λ fuel. deeper operands depth fuel go)
 unfolding may_go_deeper
-steady_deeper [] depth go p = p
-steady_deeper (operand ∷ operands) depth go p =
-    same_steady _ _ (λ fuel. if_done-cond (ltb depth fuel.depth) _ _ (λ v. go))
-    (steady_then (may_go_deeper depth) (λ v. go) (steady_may_go_deeper depth) (λ v. p))
+steady_deeper operands depth go p =
+    same_steady _ _ (λ fuel. if_done-cond (is_too_deep (length operands) depth fuel.depth) _ _ (λ v. go))
+    (steady_then (may_go_deeper (length operands) depth) (λ v. go) (steady_may_go_deeper (length operands) depth) (λ v. p))
 
 -- ---- what takes no account of fuel
 
@@ -147,23 +158,21 @@ steady_failed why form fuel = failed why form (λ more m. refl)
 in_form-value : (form : Tree) (value : Tree) (cost pairs bytes : ℕ) → Fuel → Outcome
 in_form-value form value cost pairs bytes fuel = in_form form fuel (within fuel (Gives value cost pairs bytes))
 
-enough : (form value : Tree) (cost pairs bytes : ℕ) (fuel : Fuel) → Suffices fuel (record { cost = cost; pairs = pairs; bytes = bytes }) → in_form-value form value cost pairs bytes fuel ≡ Done value (fuel_less (record { cost = cost; pairs = pairs; bytes = bytes }) fuel)
+enough : (form value : Tree) (cost pairs bytes : ℕ) (fuel : Fuel) → Covers fuel (record { cost = cost; pairs = pairs; bytes = bytes }) → in_form-value form value cost pairs bytes fuel ≡ Done value (fuel_less (record { cost = cost; pairs = pairs; bytes = bytes }) fuel)
 unfolding in_form-value
 enough form value cost pairs bytes fuel s =
-    ap (λ a. in_form form fuel a) (cond-false (ltb fuel.cost cost) _ _ (le-ltb fuel.cost cost s.cost)
-    ∙ cond-false (ltb fuel.pairs pairs) _ _ (le-ltb fuel.pairs pairs s.pairs)
-    ∙ cond-false (ltb fuel.bytes bytes) _ _ (le-ltb fuel.bytes bytes s.bytes))
+    ap (λ l. in_form form fuel (unless_lacking l (Gives value cost pairs bytes))) (covered fuel (record { cost = cost; pairs = pairs; bytes = bytes }) s)
+
+of_lack : (run : Fuel → Outcome) (form value : Tree) (cost pairs bytes : ℕ) (fuel : Fuel) (l : Option Which) → (l ≡ None → Kept run fuel (in_form form fuel (Enough (Gives value cost pairs bytes)))) → Kept run fuel (in_form form fuel (unless_lacking l (Gives value cost pairs bytes)))
+of_lack run form value cost pairs bytes fuel None h = h refl
+of_lack run form value cost pairs bytes fuel (Some which) h = spent which
 
 steady_value : (form value : Tree) (cost pairs bytes : ℕ) → IsSteady (in_form-value form value cost pairs bytes)
 unfolding in_form-value
 steady_value form value cost pairs bytes fuel =
-    let P = λ (a : WithinFuel). Kept (in_form-value form value cost pairs bytes) fuel (in_form form fuel a) in
-    cond_both (ltb fuel.cost cost) _ _ P (λ c. spent Cost)
-    (λ c. cond_both (ltb fuel.pairs pairs) _ _ P (λ p. spent Pairs)
-    (λ p. cond_both (ltb fuel.bytes bytes) _ _ P (λ b. spent Bytes)
-    (λ b. done value (record { cost = cost; pairs = pairs; bytes = bytes })
-    (record { cost = ltb-false fuel.cost cost c; pairs = ltb-false fuel.pairs pairs p; bytes = ltb-false fuel.bytes bytes b })
-    (λ other s d. enough form value cost pairs bytes other s))))
+    let spending : Spending = record { cost = cost; pairs = pairs; bytes = bytes } in
+    of_lack (in_form-value form value cost pairs bytes) form value cost pairs bytes fuel (lack spending fuel)
+    (λ e. done value spending (covers fuel spending e) (λ other s d. enough form value cost pairs bytes other s))
 
 steady_operator : (form : Tree) (a : Applied) → IsSteady (λ fuel. in_form form fuel (within fuel a))
 unfolding in_form-value

@@ -1,5 +1,5 @@
 -- The laws on fuel: how many steps an evaluation takes, and what it keeps with other fuel.
-use Rattle.std.proofs.Common.{◌≡◌, ℕ, zero, suc, ◌+◌, ◌-◌, ◌<◌, ◌≤◌, Bool, true, false, cond, ltb, List, [], ◌∷◌, Option, Some, None, refl, sym, ap, ◌∙◌, subst, arith}
+use Rattle.std.proofs.Common.{◌≡◌, ℕ, zero, suc, ◌+◌, ◌-◌, ◌<◌, ◌≤◌, Bool, true, false, cond, ltb, List, [], ◌∷◌, length, Option, Some, None, refl, sym, ap, ◌∙◌, subst, arith}
 use Rattle.std.proofs.lemmas.Bool.{ltb-false}
 use Rattle.clvm_spec.specs.declared.fuel.Fuel.{Fuel}
 use Rattle.clvm_spec.specs.declared.fuel.Which.TheVariants.{Depth}
@@ -7,9 +7,10 @@ use Rattle.clvm_spec.specs.Tree.{Tree, Atom, Pair}
 use Rattle.clvm_spec.specs.ProperList.{elements}
 use Rattle.clvm_spec.specs.Outcomes.{Why, Outcome, Done, Failed, Spent, Wide}
 use Rattle.clvm_spec.specs.OperatorTable.{apply_cost}
-use Rattle.clvm_spec.specs.Evaluation.{if_done, charge, is_byte, Evaluator, goes_on, apply_values, values_of, deeper, operator_form, evaluated_by, evaluated_within, evaluation}
-use Rattle.clvm_spec.specs.Spending.{Spending, Suffices, fuel_less}
+use Rattle.clvm_spec.specs.Evaluation.{if_done, charge, is_byte, Evaluator, goes_on, apply_values, values_of, is_too_deep, deeper, operator_form, evaluated_by, evaluated_within, evaluation}
+use Rattle.clvm_spec.specs.Spending.{Spending, fuel_less}
 use Rattle.clvm_spec.specs.FuelLaws.{IsAtLeast, DoneRunUsesTheSame, MoreFuelKeepsFailures, MoreFuelKeepsWide, StepsAreWithinTheCost, EvaluationIsItsStep}
+use Rattle.clvm_spec.proofs.SpendingLaws.{Covers, covers, covered}
 use Rattle.clvm_spec.proofs.Steady.{Kept, done, failed, spent, wide, IsSteady, steady_within}
 
 -- ---- steps
@@ -45,8 +46,7 @@ same_charge cost c x y above same fuel h =
     cond_same (ltb fuel.cost cost) _ _ _ (λ e. let k = ltb-false fuel.cost cost e in same (record fuel { cost = fuel.cost - cost }) (omega arith))
 
 same_deeper : (operands : List Tree) (depth : ℕ) (x y : Fuel → Outcome) (fuel : Fuel) → x fuel ≡ y fuel → deeper operands depth fuel x ≡ deeper operands depth fuel y
-same_deeper [] depth x y fuel e = e
-same_deeper (operand ∷ operands) depth x y fuel e = ap (λ o. cond (ltb depth fuel.depth) o (Spent Depth)) e
+same_deeper operands depth x y fuel e = ap (λ o. cond (is_too_deep (length operands) depth fuel.depth) (Spent Depth) o) e
 
 same_values : (c : ℕ) (value value' : Tree → Fuel → Outcome) → ((operand : Tree) → IsSteady (value operand)) → ((operand : Tree) (fuel : Fuel) → fuel.cost < c → value operand fuel ≡ value' operand fuel) →
     (operands : List Tree) (go go' : List Tree → Fuel → Outcome) → ((values : List Tree) (fuel : Fuel) → fuel.cost < c → go values fuel ≡ go' values fuel) →
@@ -137,19 +137,19 @@ abbrev between : Fuel → Fuel → Spending
 between fuel left = record { cost = fuel.cost - left.cost; pairs = fuel.pairs - left.pairs; bytes = fuel.bytes - left.bytes }
 
 abbrev Leaves : (Fuel → Outcome) → Fuel → Tree → Fuel → Type 0
-Leaves run fuel value left = Suffices fuel (between fuel left) × (left ≡ fuel_less (between fuel left) fuel)
-    × ((other : Fuel) → Suffices other (between fuel left) → fuel.depth ≤ other.depth → run other ≡ Done value (fuel_less (between fuel left) other))
+Leaves run fuel value left = Covers fuel (between fuel left) × (left ≡ fuel_less (between fuel left) fuel)
+    × ((other : Fuel) → Covers other (between fuel left) → fuel.depth ≤ other.depth → run other ≡ Done value (fuel_less (between fuel left) other))
 
-between-fuel_less : (fuel : Fuel) (spending : Spending) → Suffices fuel spending → spending ≡ between fuel (fuel_less spending fuel)
+between-fuel_less : (fuel : Fuel) (spending : Spending) → Covers fuel spending → spending ≡ between fuel (fuel_less spending fuel)
 between-fuel_less fuel spending h =
     let c : spending.cost ≡ fuel.cost - (fuel.cost - spending.cost) = let k = h.cost in omega arith in
     let p : spending.pairs ≡ fuel.pairs - (fuel.pairs - spending.pairs) = let k = h.pairs in omega arith in
     let b : spending.bytes ≡ fuel.bytes - (fuel.bytes - spending.bytes) = let k = h.bytes in omega arith in
     λ i. record { cost = c i; pairs = p i; bytes = b i }
 
-leaves_itself : (run : Fuel → Outcome) (fuel : Fuel) (value : Tree) (spending : Spending) → Suffices fuel spending → ((other : Fuel) → Suffices other spending → fuel.depth ≤ other.depth → run other ≡ Done value (fuel_less spending other)) → Leaves run fuel value (fuel_less spending fuel)
+leaves_itself : (run : Fuel → Outcome) (fuel : Fuel) (value : Tree) (spending : Spending) → Covers fuel spending → ((other : Fuel) → Covers other spending → fuel.depth ≤ other.depth → run other ≡ Done value (fuel_less spending other)) → Leaves run fuel value (fuel_less spending fuel)
 leaves_itself run fuel value spending h all =
-    let P = λ (s : Spending). Suffices fuel s × (fuel_less spending fuel ≡ fuel_less s fuel) × ((other : Fuel) → Suffices other s → fuel.depth ≤ other.depth → run other ≡ Done value (fuel_less s other)) in
+    let P = λ (s : Spending). Covers fuel s × (fuel_less spending fuel ≡ fuel_less s fuel) × ((other : Fuel) → Covers other s → fuel.depth ≤ other.depth → run other ≡ Done value (fuel_less s other)) in
     subst P (between-fuel_less fuel spending h) (h, refl, all)
 
 kept_done : (run : Fuel → Outcome) (fuel : Fuel) (o : Outcome) → Kept run fuel o → (value : Tree) (left : Fuel) → o ≡ Done value left → Leaves run fuel value left
@@ -167,9 +167,9 @@ done_law program env depth fuel left value e =
     let within_some : (n : ℕ) → fuel.cost < n → Leaves (evaluated_within n program env depth) fuel value left = λ n h. kept_done _ fuel _ (enough_steps program env depth n fuel h) value left e in
     let here = within_some (suc fuel.cost) (omega arith) in (
       between fuel left,
-      here.0,
+      covered fuel (between fuel left) here.0,
       here.1,
       λ other s d.
           let n = suc (fuel.cost + other.cost) in
-          sym (steps_law n program env depth other (omega arith)) ∙ (within_some n (omega arith)).2 other s d,
+          sym (steps_law n program env depth other (omega arith)) ∙ (within_some n (omega arith)).2 other (covers other (between fuel left) s) d,
     )

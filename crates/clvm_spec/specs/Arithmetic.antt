@@ -1,6 +1,6 @@
 -- What the operators calculate with whole numbers. Source: CLVM reference; the width of 128 bits and the limits of a
 -- shift are this project's own.
-use Rattle.std.specs.Prelude.{zero, suc, ◌/◌, ◌^◌, ℤ, pos, negsuc, ◌-ℤ◌, ◌*ℤ◌, Bool, true, false, nat_lt, nat_le, if◌then◌else◌, Option, Some, None}
+use Rattle.std.specs.Prelude.{zero, suc, ◌/◌, ◌^◌, ℤ, pos, negsuc, ◌-ℤ◌, ◌*ℤ◌, nat_abs, Bool, true, false, nat_lt, nat_le, if◌then◌else◌, Option, Some, None}
 use Rattle.std.specs.Int.{int_shr}
 
 -- from -2 ^ 127 to 2 ^ 127 - 1
@@ -29,10 +29,13 @@ quotient (negsuc a) (negsuc b) = pos (suc a / suc b)
 abbrev pub remainder : ℤ → ℤ → ℤ
 remainder a b = a -ℤ (b *ℤ quotient a b)
 
--- from -65,535 to 65,535
+-- -1 less the number
+abbrev pub complement : ℤ → ℤ
+complement n = negsuc 0 -ℤ n
+
+-- by at most 65,535 either way
 abbrev pub is_shift : ℤ → Bool
-is_shift (pos by) = nat_le by 65535
-is_shift (negsuc by) = nat_lt by 65535
+is_shift by = nat_le (nat_abs by) 65535
 
 -- times 2 to that power, rounded down
 abbrev pub shifted : ℤ → ℤ → ℤ

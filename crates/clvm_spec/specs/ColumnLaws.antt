@@ -6,7 +6,9 @@ use Rattle.std.specs.List.{All}
 use Rattle.clvm_spec.specs.Numbers.{is_short}
 use Rattle.clvm_spec.specs.Tree.{Tree, Atom, Pair, bytes_of}
 use Rattle.clvm_spec.specs.Outcomes.{WrongCount, WrongOperand, Applied, Gives, Fails, TooWide}
-use Rattle.clvm_spec.specs.OperatorTable.{Operands, Any, Pairs, Atoms, Numbers, AtomAndNumbers, Operator, operators}
+use Rattle.clvm_spec.specs.declared.operands.Operands.{Operands}
+use Rattle.clvm_spec.specs.declared.operands.Operands.TheVariants.{Any, Pairs, Atoms, Numbers, AtomAndNumbers}
+use Rattle.clvm_spec.specs.OperatorTable.{Operator, operators}
 
 abbrev pub rows_on_values : List Operator
 rows_on_values = drop 2 operators
@@ -62,12 +64,9 @@ KindsAreColumns = All (λ row. (operands : List Tree) (fault : Applied) → HasC
 abbrev pub NoOtherIsWrong : Type 0
 NoOtherIsWrong = All (λ row. (operands : List Tree) (place : ℕ) → first_fault row.kind 0 operands ≡ None → row.applied operands ≡ Fails (WrongOperand place) → (row.kind ≡ AtomAndNumbers) × (place ≡ 1)) rows_on_values
 
-abbrev pub atom_length : Tree → ℕ
-atom_length tree = length (bytes_of tree)
-
 -- Nor is one too wide, but of numbers, for atoms whose lengths together are below 2 ^ 64.
 abbrev pub OnlyNumbersAreTooWide : Type 0
-OnlyNumbersAreTooWide = All (λ row. (operands : List Tree) → first_fault row.kind 0 operands ≡ None → sum_by atom_length operands < 2 ^ 64 → row.applied operands ≡ TooWide → row.kind ≡ Numbers) rows_on_values
+OnlyNumbersAreTooWide = All (λ row. (operands : List Tree) → first_fault row.kind 0 operands ≡ None → sum_by (λ operand. length (bytes_of operand)) operands < 2 ^ 64 → row.applied operands ≡ TooWide → row.kind ≡ Numbers) rows_on_values
 
 -- ---- what it costs
 

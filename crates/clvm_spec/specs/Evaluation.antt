@@ -1,14 +1,15 @@
 -- The costed evaluation of a program in an environment. Source: CLVM reference; the costs, the four counts of fuel, and
 -- which fault comes first, are this project's own.
-use Rattle.std.specs.Prelude.{ℕ, zero, suc, ◌-◌, ◌==◌, Bool, false, List, [], ◌∷◌, Option, Some, None, nat_lt, if◌then◌else◌}
+use Rattle.std.specs.Prelude.{ℕ, zero, suc, ◌-◌, ◌==◌, Bool, false, ◌&&◌, List, [], ◌∷◌, length, Option, Some, None, nat_lt, nat_le, if◌then◌else◌}
 use Rattle.clvm_spec.specs.declared.fuel.Fuel.{Fuel}
 use Rattle.clvm_spec.specs.declared.fuel.Which.TheVariants.{Cost, Depth}
 use Rattle.clvm_spec.specs.Tree.{Tree, Atom, Pair}
 use Rattle.clvm_spec.specs.ProperList.{elements}
 use Rattle.clvm_spec.specs.Path.{PathValue, Reached, Astray, path_value, path_cost}
 use Rattle.clvm_spec.specs.Outcomes.{NoStep, NotAList, WrongCount, NoOperator, Gives, Fails, TooWide, WithinFuel, Enough, Lacks, Outcome, Done, Failed, Spent, Wide}
-use Rattle.clvm_spec.specs.OperatorTable.{quote_cost, apply_cost, operator_outcome}
-use Rattle.clvm_spec.specs.Spending.{fuel_less, paid}
+use Rattle.clvm_spec.specs.OperatorTable.{quote_code, quote_cost, apply_code, apply_cost, operator_outcome}
+use Rattle.clvm_spec.specs.Operators.{of_two}
+use Rattle.clvm_spec.specs.Spending.{exceeds, fuel_less, paid}
 
 -- goes on from where a part is done
 abbrev pub if_done : Outcome → (Tree → Fuel → Outcome) → Outcome
@@ -17,9 +18,9 @@ if_done (Failed why form) go = Failed why form
 if_done (Spent which) go = Spent which
 if_done Wide go = Wide
 
--- A cost equal to what is left is enough.
+-- goes on from where a cost is paid
 abbrev pub charge : ℕ → Fuel → (Fuel → Outcome) → Outcome
-charge cost left go = if nat_lt left.cost cost then Spent Cost else go (paid cost left)
+charge cost left go = if exceeds cost left.cost then Spent Cost else go (paid cost left)
 
 abbrev pub is_byte : ℕ → List ℕ → Bool
 is_byte code [] = false
@@ -42,10 +43,7 @@ Evaluator = Tree → Tree → ℕ → Fuel → Outcome
 
 -- `a`: once its two operands are evaluated, the first is the program and the second the environment, at the form's depth.
 abbrev pub goes_on : Evaluator → Tree → ℕ → List Tree → Fuel → Outcome
-goes_on evaluate form depth [] left = Failed WrongCount form
-goes_on evaluate form depth (program ∷ []) left = Failed WrongCount form
-goes_on evaluate form depth (program ∷ env ∷ []) left = charge apply_cost left (evaluate program env depth)
-goes_on evaluate form depth (program ∷ env ∷ c ∷ more) left = Failed WrongCount form
+goes_on evaluate form depth values left = of_two (Failed WrongCount form) values (λ program env. charge apply_cost left (evaluate program env depth))
 
 -- A value takes its cost, pairs and bytes from what is left; a fault is the form's.
 abbrev pub in_form : Tree → Fuel → WithinFuel → Outcome
@@ -56,7 +54,7 @@ in_form form left (Lacks which) = Spent which
 
 abbrev pub apply_values : Evaluator → List ℕ → Tree → ℕ → List Tree → Fuel → Outcome
 apply_values evaluate code form depth values left =
-    if is_byte 2 code then goes_on evaluate form depth values left else in_form form left (operator_outcome code values left)
+    if is_byte apply_code code then goes_on evaluate form depth values left else in_form form left (operator_outcome code values left)
 
 -- the operands' values, from the last to the first
 abbrev pub values_of : (Tree → Fuel → Outcome) → List Tree → Fuel → (List Tree → Fuel → Outcome) → Outcome
@@ -64,10 +62,12 @@ values_of value [] left go = go [] left
 values_of value (operand ∷ operands) left go =
     values_of value operands left (λ values after. if_done (value operand after) (λ v last. go (v ∷ values) last))
 
--- Operands stand one deeper than their form, so a form with operands can't be at the limit.
+-- Operands stand one deeper than their form, so a form that has some can't be at the limit.
+abbrev pub is_too_deep : (count depth limit : ℕ) → Bool
+is_too_deep count depth limit = nat_lt 0 count && nat_le limit depth
+
 abbrev pub deeper : List Tree → ℕ → Fuel → (Fuel → Outcome) → Outcome
-deeper [] depth left go = go left
-deeper (operand ∷ operands) depth left go = if nat_lt depth left.depth then go left else Spent Depth
+deeper operands depth left go = if is_too_deep (length operands) depth left.depth then Spent Depth else go left
 
 -- An operator form: its rest is a list ended by nil, it costs 1, and its operands are evaluated before the operator.
 abbrev pub operator_form : Evaluator → List ℕ → Tree → Tree → ℕ → Option (List Tree) → Fuel → Outcome
@@ -76,10 +76,10 @@ operator_form evaluate code form env depth (Some operands) left =
     charge 1 left (λ after. deeper operands depth after (λ after.
     values_of (λ operand. evaluate operand env (suc depth)) operands after (apply_values evaluate code form depth)))
 
--- A pair whose first is the one byte 1 has its rest as its value.
+-- A pair whose first is the code of `q` has its rest as its value.
 abbrev pub atom_form : Evaluator → List ℕ → Tree → Tree → ℕ → Fuel → Outcome
 atom_form evaluate code rest env depth left =
-    if is_byte 1 code then charge quote_cost left (Done rest) else operator_form evaluate code (Pair (Atom code) rest) env depth (elements rest) left
+    if is_byte quote_code code then charge quote_cost left (Done rest) else operator_form evaluate code (Pair (Atom code) rest) env depth (elements rest) left
 
 -- one step of evaluation: a path, a form with a pair as its head, or one with an atom
 abbrev pub evaluated_by : Evaluator → Evaluator
@@ -105,5 +105,14 @@ abbrev pub run_cost : Fuel → Fuel → ℕ
 run_cost fuel left = fuel.cost - left.cost
 
 -- the fuel of every run, but its cost
+abbrev pub most_pairs : ℕ
+most_pairs = 16_777_216
+
+abbrev pub most_bytes : ℕ
+most_bytes = 134_217_728
+
+abbrev pub most_depth : ℕ
+most_depth = 1_048_576
+
 abbrev pub fuel_of : ℕ → Fuel
-fuel_of cost = record { cost = cost; pairs = 16_777_216; bytes = 134_217_728; depth = 1_048_576 }
+fuel_of cost = record { cost = cost; pairs = most_pairs; bytes = most_bytes; depth = most_depth }

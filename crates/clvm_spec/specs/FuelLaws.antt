@@ -1,4 +1,4 @@
--- What fuel is to an evaluation: laws of the definition, each proved once for the crates above.
+-- What fuel is to an evaluation: laws of the definition, each proved once for the crates above. They follow from it.
 use Rattle.std.specs.Prelude.{◌≡◌, ℕ, ◌<◌, ◌≤◌, List}
 use Rattle.clvm_spec.specs.declared.fuel.Fuel.{Fuel}
 use Rattle.clvm_spec.specs.Tree.{Tree}

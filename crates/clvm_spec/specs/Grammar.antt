@@ -91,3 +91,7 @@ module _ {Form Place : Type 0} (language : Language Form Place) where
   -- what stands in a list, with nothing to bound it
   abbrev pub list_from : InList Form Place
   list_from depth place begun text = list_within (suc (length text)) depth place begun text
+
+  -- a form that stands in no list
+  abbrev pub outer_form : Front → Parsed Form Place
+  outer_form front = form_at list_from 0 front

@@ -5,8 +5,8 @@ use Rattle.std.specs.Int.{w128}
 use Rattle.std.specs.List.{AllByRecursion}
 use Rattle.clvm_spec.specs.Tree.{Tree}
 use Rattle.clvm_spec.specs.Spelling.{spelling, HasSpelling, Spells}
-use Rattle.clvm_spec.specs.Reading.{Flaw, Found, Faulty, tree_at_front, tree_of}
-use Rattle.clvm_spec.specs.Faults.{HasFault}
+use Rattle.clvm_spec.specs.Reading.{Flaw, Head, Flawed, head_at, Found, Faulty, tree_at_front, HasTree, front_read, tree_of}
+use Rattle.clvm_spec.specs.Faults.{BeginOpen, HasFault}
 use Rattle.clvm_spec.specs.Numbers.{number, shortest_atom, has_sign_byte}
 use Rattle.clvm_spec.specs.Arithmetic.{quotient, remainder}
 
@@ -25,13 +25,21 @@ BeginsNoOther = (tree other : Tree) (rest : List ℕ) → HasSpelling tree → H
 abbrev pub FindsSpelled : Type 0
 FindsSpelled = (tree : Tree) (rest : List ℕ) → HasSpelling tree → tree_at_front (spelling tree ++ rest) ≡ Found tree rest
 
+-- So reading answers the tree, and how many bytes spell it.
+abbrev pub ReadsSpelled : Type 0
+ReadsSpelled = (tree : Tree) (rest : List ℕ) → HasSpelling tree → front_read (spelling tree ++ rest) ≡ HasTree tree (length (spelling tree))
+
 -- A tree that is found is spelled there.
 abbrev pub FoundIsSpelled : Type 0
 FoundIsSpelled = (bytes : List ℕ) (tree : Tree) (rest : List ℕ) → AreBytes bytes → tree_at_front bytes ≡ Found tree rest → HasSpelling tree × (bytes ≡ spelling tree ++ rest)
 
--- A flaw is found exactly behind a list of tokens that leaves trees open, where it is why no token stands.
+-- A flaw is found exactly behind the longest list of heads that leaves trees open, where it is why no head stands.
 abbrev pub FaultIsFound : Type 0
 FaultIsFound = (bytes : List ℕ) (flaw : Flaw) (rest : List ℕ) → AreBytes bytes → (tree_at_front bytes ≡ Faulty flaw rest) ↔ HasFault bytes flaw rest
+
+-- A flaw behind any list of heads that leaves trees open is found, so that list is the longest.
+abbrev pub FlawIsFound : Type 0
+FlawIsFound = (bytes : List ℕ) (heads : List Head) (flaw : Flaw) (rest : List ℕ) → BeginOpen bytes heads rest → head_at rest ≡ Flawed flaw → tree_at_front bytes ≡ Faulty flaw rest
 
 -- Bytes are read as a whole tree exactly where they spell it.
 abbrev pub WholeIsSpelled : Type 0
@@ -45,7 +53,7 @@ ShortestHasNumber = (n : ℤ) → FitsSigned w128 n → number (shortest_atom n)
 abbrev pub ShortestIsItself : Type 0
 ShortestIsItself = (atom : List ℕ) → AreBytes atom → length atom ≤ 16 → has_sign_byte atom ≡ false → shortest_atom (number atom) ≡ atom
 
--- No atom of a number is shorter than the shortest.
+-- No atom of at most 16 bytes is shorter than the shortest of its number.
 abbrev pub ShortestIsLeast : Type 0
 ShortestIsLeast = (atom : List ℕ) → AreBytes atom → length (shortest_atom (number atom)) ≤ length atom
 

@@ -23,3 +23,4 @@ pub mod Lines
 pub mod FuelLaws
 pub mod ColumnLaws
 pub mod TextLaws
+pub mod PathLaws

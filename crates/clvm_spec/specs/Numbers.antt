@@ -1,6 +1,6 @@
 -- The numbers of atoms: big-endian two's complement, with the empty atom for zero. Source: CLVM reference; that
 -- numbers are 128 bits wide is this project's own.
-use Rattle.std.specs.Prelude.{ℕ, ◌-◌, ◌==◌, ◌&&◌, ◌||◌, ℤ, pos, negsuc, Bool, false, List, [], ◌∷◌, length, map, nat_lt, nat_le, if◌then◌else◌}
+use Rattle.std.specs.Prelude.{ℕ, ◌-◌, ◌==◌, ◌&&◌, ◌||◌, ℤ, pos, negsuc, Bool, false, not, List, [], ◌∷◌, length, map, nat_lt, nat_le, if◌then◌else◌}
 use Rattle.std.specs.Int.{w128, to_be_bytes, cast_unsigned}
 use Rattle.std.specs.Int.Digits.{number_from_digits}
 
@@ -8,10 +8,17 @@ use Rattle.std.specs.Int.Digits.{number_from_digits}
 abbrev pub unsigned : List ℕ → ℕ
 unsigned bytes = number_from_digits 256 bytes
 
--- A first byte from 0x80 on is that of a negative number: -1 less the number of the complement.
+-- whether a number with this first byte is 0 or more
+abbrev pub is_natural : ℕ → Bool
+is_natural b = nat_lt b 0x80
+
+abbrev pub complemented : List ℕ → List ℕ
+complemented bytes = map (λ b. 255 - b) bytes
+
+-- A number below 0 is -1 less the number of the complement.
 abbrev pub number : List ℕ → ℤ
 number [] = pos 0
-number (b ∷ bytes) = if nat_lt b 0x80 then pos (unsigned (b ∷ bytes)) else negsuc (unsigned (map (λ b. 255 - b) (b ∷ bytes)))
+number (b ∷ bytes) = if is_natural b then pos (unsigned (b ∷ bytes)) else negsuc (unsigned (complemented (b ∷ bytes)))
 
 -- whether an atom has no more than the 16 bytes of a number that operators take
 abbrev pub is_short : List ℕ → Bool
@@ -21,7 +28,7 @@ is_short bytes = nat_le (length bytes) 16
 abbrev pub has_sign_byte : List ℕ → Bool
 has_sign_byte [] = false
 has_sign_byte (b ∷ []) = b == 0
-has_sign_byte (b ∷ c ∷ bytes) = (b == 0 && nat_lt c 0x80) || (b == 255 && nat_le 0x80 c)
+has_sign_byte (b ∷ c ∷ bytes) = (b == 0 && is_natural c) || (b == 255 && not (is_natural c))
 
 unfoldable pub without_sign_bytes : List ℕ → List ℕ
 without_sign_bytes [] = []

@@ -1,23 +1,17 @@
--- The table of the 29 operators, by code. Source: CLVM reference; the costs, the order of cost, pairs and bytes, and which
--- operators are left out, are this project's own.
-use Rattle.std.specs.Prelude.{ℕ, ◌==◌, List, [], ◌∷◌, Option, Some, None, find, bytes_eq, codes, nat_lt, if◌then◌else◌}
+-- The table of the 29 operators, by code. Source: CLVM reference; the costs, that fuel comes last, and which operators are
+-- left out, are this project's own.
+use Rattle.std.specs.Prelude.{ℕ, ◌==◌, List, [], ◌∷◌, Option, Some, None, find, bytes_eq, codes}
 use Rattle.clvm_spec.specs.declared.fuel.Fuel.{Fuel}
-use Rattle.clvm_spec.specs.declared.fuel.Which.TheVariants as which
+use Rattle.clvm_spec.specs.declared.fuel.Which.{Which}
+use Rattle.clvm_spec.specs.declared.operands.Operands.{Operands}
+use Rattle.clvm_spec.specs.declared.operands.Operands.TheVariants.{Any, Pairs, Atoms, Numbers, AtomAndNumbers}
 use Rattle.clvm_spec.specs.Tree.{Tree}
 use Rattle.clvm_spec.specs.Outcomes.{NoOperator, Applied, Gives, Fails, TooWide, WithinFuel, Enough, Lacks}
+use Rattle.clvm_spec.specs.Spending.{lack}
 use Rattle.clvm_spec.specs.Operators.{choice, new_pair, first_of, rest_of, pair_flag, raised, equal_flag, bytes_greater_flag, hash_of, part_of, length_of, concat_of, sum_of, difference_of, product_of, quotient_of, quotient_and_remainder, greater_flag, shift_of_number, shift_of_bits, and_of, or_of, xor_of, complement_of, nil_flag, any_flag, all_flag}
 
--- what each operand of an operator has to be
-pub data Operands : Type 0 where
-  Any : Operands
-  Pairs : Operands
-  Atoms : Operands
-  -- atoms of at most 16 bytes
-  Numbers : Operands
-  -- an atom as the first, numbers as the others
-  AtomAndNumbers : Operands
-
--- What the least, the most, the kind and the cost say of what is applied is laid down as laws, in ColumnLaws.
+-- What the least, the most, the kind and the cost say of what is applied is laid down as laws, in ColumnLaws, of all rows
+-- but those of `q` and `a`.
 pub record Operator : Type 0 where
   pub code : ℕ
   pub name : List ℕ
@@ -35,20 +29,27 @@ abbrev pub operator : (code : ℕ) (name : List ℕ) (least : ℕ) (most : Optio
 operator code name least most kind cost equation =
     record { code = code; name = name; least = least; most = most; kind = kind; cost = cost; applied = equation cost }
 
--- `q` and `a` are no operators on values: evaluation treats them, at these costs.
+-- `q` and `a` are no operators on values: evaluation treats them, by these codes and at these costs.
+abbrev pub quote_code : ℕ
+quote_code = 1
+
 abbrev pub quote_cost : ℕ
 quote_cost = 20
+
+abbrev pub apply_code : ℕ
+apply_code = 2
 
 abbrev pub apply_cost : ℕ
 apply_cost = 90
 
+-- Applied to values, they are none. Of their counts evaluation tells: what follows `q` isn't counted, and `a` has two.
 abbrev pub by_evaluation : ℕ → List Tree → Applied
 by_evaluation cost operands = Fails NoOperator
 
 abbrev pub operators : List Operator
 operators =
-    operator 1 (codes "q") 0 None Any quote_cost by_evaluation
-    ∷ operator 2 (codes "a") 2 (Some 2) Any apply_cost by_evaluation
+    operator quote_code (codes "q") 0 None Any quote_cost by_evaluation
+    ∷ operator apply_code (codes "a") 2 (Some 2) Any apply_cost by_evaluation
     ∷ operator 3 (codes "i") 3 (Some 3) Any 33 choice
     ∷ operator 4 (codes "c") 2 (Some 2) Any 50 new_pair
     ∷ operator 5 (codes "f") 1 (Some 1) Pairs 30 first_of
@@ -87,28 +88,27 @@ operator_of code = find (λ row. row.code == code) operators
 unfoldable pub operator_named : List ℕ → Option Operator
 operator_named name = find (λ row. bytes_eq row.name name) operators
 
+-- by an atom, of which one byte is a code
+abbrev pub operator_at : List ℕ → Option Operator
+operator_at [] = None
+operator_at (code ∷ []) = operator_of code
+operator_at (code ∷ b ∷ more) = None
+
 abbrev pub applied_by : Option Operator → List Tree → Applied
 applied_by None operands = Fails NoOperator
 applied_by (Some row) operands = row.applied operands
 
 -- what the operator with this atom as its code gives, where fuel is no matter
 unfoldable pub applied : List ℕ → List Tree → Applied
-applied [] operands = Fails NoOperator
-applied (code ∷ []) operands = applied_by (operator_of code) operands
-applied (code ∷ b ∷ more) operands = Fails NoOperator
+applied code operands = applied_by (operator_at code) operands
 
--- Where a value is there, the cost has to suffice, then the pairs, then the bytes. What is left is enough.
-abbrev pub within_bytes : Fuel → Tree → ℕ → ℕ → ℕ → WithinFuel
-within_bytes left value cost pairs bytes = if nat_lt left.bytes bytes then Lacks which.Bytes else Enough (Gives value cost pairs bytes)
+abbrev pub unless_lacking : Option Which → Applied → WithinFuel
+unless_lacking None applied = Enough applied
+unless_lacking (Some which) applied = Lacks which
 
-abbrev pub within_pairs : Fuel → Tree → ℕ → ℕ → ℕ → WithinFuel
-within_pairs left value cost pairs bytes = if nat_lt left.pairs pairs then Lacks which.Pairs else within_bytes left value cost pairs bytes
-
-abbrev pub within_cost : Fuel → Tree → ℕ → ℕ → ℕ → WithinFuel
-within_cost left value cost pairs bytes = if nat_lt left.cost cost then Lacks which.Cost else within_pairs left value cost pairs bytes
-
+-- Where a value is there, what it uses has to suffice.
 abbrev pub within : Fuel → Applied → WithinFuel
-within left (Gives value cost pairs bytes) = within_cost left value cost pairs bytes
+within left (Gives value cost pairs bytes) = unless_lacking (lack (record { cost = cost; pairs = pairs; bytes = bytes }) left) (Gives value cost pairs bytes)
 within left (Fails why) = Enough (Fails why)
 within left TooWide = Enough TooWide
 

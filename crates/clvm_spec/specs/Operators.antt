@@ -15,10 +15,17 @@ use Rattle.std.specs.Int.{w128, int_bit_and, int_bit_or, int_bit_xor}
 use Rattle.sha2.specs.Sha256.{sha256}
 use Rattle.clvm_spec.specs.Tree.{Tree, Atom, Pair, nil, list_tree}
 use Rattle.clvm_spec.specs.Numbers.{unsigned, number, shortest_atom, is_short}
-use Rattle.clvm_spec.specs.Arithmetic.{fits_128, if_fits, is_zero, quotient, remainder, is_shift, shifted}
+use Rattle.clvm_spec.specs.Arithmetic.{if_fits, is_zero, quotient, remainder, complement, is_shift, shifted}
 use Rattle.clvm_spec.specs.Outcomes.{WrongCount, WrongOperand, Raised, ZeroDivisor, WrongShift, Applied, Gives, Fails, TooWide}
 
 -- ---- how operands are read: first how many there are, then each of them
+
+-- what is made of exactly two, or else
+abbrev pub of_two : {T : Type 0} → T → List Tree → (Tree → Tree → T) → T
+of_two otherwise [] go = otherwise
+of_two otherwise (a ∷ []) go = otherwise
+of_two otherwise (a ∷ b ∷ []) go = go a b
+of_two otherwise (a ∷ b ∷ c ∷ more) go = otherwise
 
 abbrev pub one : List Tree → (Tree → Applied) → Applied
 one [] go = Fails WrongCount
@@ -26,10 +33,7 @@ one (a ∷ []) go = go a
 one (a ∷ b ∷ more) go = Fails WrongCount
 
 abbrev pub two : List Tree → (Tree → Tree → Applied) → Applied
-two [] go = Fails WrongCount
-two (a ∷ []) go = Fails WrongCount
-two (a ∷ b ∷ []) go = go a b
-two (a ∷ b ∷ c ∷ more) go = Fails WrongCount
+two operands go = of_two (Fails WrongCount) operands go
 
 abbrev pub three : List Tree → (Tree → Tree → Tree → Applied) → Applied
 three [] go = Fails WrongCount
@@ -67,26 +71,29 @@ abbrev pub number_or : ℤ → ℕ → Option Tree → (ℤ → Applied) → App
 number_or other place None go = go other
 number_or other place (Some operand) go = number_at place operand (λ bytes. go (number bytes))
 
+-- how an operand is read at its place
+abbrev pub Reader : Type 0
+Reader = ℕ → Tree → (List ℕ → Applied) → Applied
+
+abbrev pub two_read : Reader → List Tree → (List ℕ → List ℕ → Applied) → Applied
+two_read read operands go = two operands (λ a b. read 0 a (λ a. read 1 b (λ b. go a b)))
+
 abbrev pub two_atoms : List Tree → (List ℕ → List ℕ → Applied) → Applied
-two_atoms operands go = two operands (λ a b. atom_at 0 a (λ a. atom_at 1 b (λ b. go a b)))
+two_atoms operands go = two_read atom_at operands go
 
 abbrev pub two_numbers : List Tree → (List ℕ → List ℕ → Applied) → Applied
-two_numbers operands go = two operands (λ a b. number_at 0 a (λ a. number_at 1 b (λ b. go a b)))
+two_numbers operands go = two_read number_at operands go
 
--- any count of atoms, or of numbers, from this place on
-abbrev pub atoms_from : ℕ → List Tree → (List (List ℕ) → Applied) → Applied
-atoms_from place [] go = go []
-atoms_from place (operand ∷ operands) go = atom_at place operand (λ bytes. atoms_from (suc place) operands (λ more. go (bytes ∷ more)))
-
-abbrev pub numbers_from : ℕ → List Tree → (List (List ℕ) → Applied) → Applied
-numbers_from place [] go = go []
-numbers_from place (operand ∷ operands) go = number_at place operand (λ bytes. numbers_from (suc place) operands (λ more. go (bytes ∷ more)))
+-- any count of operands, from this place on
+abbrev pub each_read : Reader → ℕ → List Tree → (List (List ℕ) → Applied) → Applied
+each_read read place [] go = go []
+each_read read place (operand ∷ operands) go = read place operand (λ bytes. each_read read (suc place) operands (λ more. go (bytes ∷ more)))
 
 abbrev pub atoms : List Tree → (List (List ℕ) → Applied) → Applied
-atoms operands go = atoms_from 0 operands go
+atoms operands go = each_read atom_at 0 operands go
 
 abbrev pub numbers : List Tree → (List (List ℕ) → Applied) → Applied
-numbers operands go = numbers_from 0 operands go
+numbers operands go = each_read number_at 0 operands go
 
 -- ---- how values are made
 
@@ -103,12 +110,18 @@ is_nil (Atom (b ∷ bytes)) = false
 is_nil (Pair first rest) = false
 
 -- A new atom uses its length and 8 bytes more.
-abbrev pub new_atom : ℕ → List ℕ → Applied
-new_atom cost bytes = Gives (Atom bytes) cost 0 (length bytes + 8)
+abbrev pub atom_bytes : List ℕ → ℕ
+atom_bytes bytes = length bytes + 8
 
--- the same, at a cost of 10 more for each byte
+abbrev pub new_atom : ℕ → List ℕ → Applied
+new_atom cost bytes = Gives (Atom bytes) cost 0 (atom_bytes bytes)
+
+-- Each byte of a result costs 10.
+abbrev pub result_cost : ℕ → ℕ
+result_cost size = 10 * size
+
 abbrev pub written : ℕ → List ℕ → Applied
-written cost bytes = new_atom (cost + 10 * length bytes) bytes
+written cost bytes = new_atom (cost + result_cost (length bytes)) bytes
 
 -- what is made of a number where there is one that 128 bits hold
 abbrev pub or_wide : {T : Type 0} → Option T → (T → Applied) → Applied
@@ -118,12 +131,12 @@ or_wide (Some held) go = go held
 abbrev pub new_number : ℕ → ℤ → Applied
 new_number cost n = or_wide (if_fits n) (λ n. written cost (shortest_atom n))
 
--- a pair of two new atoms, at a cost of 10 more for each byte of both
+-- a pair of two new atoms
 abbrev pub written_pair : ℕ → List ℕ → List ℕ → Applied
-written_pair cost a b = Gives (Pair (Atom a) (Atom b)) (cost + 10 * (length a + length b)) 1 ((length a + 8) + (length b + 8))
+written_pair cost a b = Gives (Pair (Atom a) (Atom b)) (cost + result_cost (length a + length b)) 1 (atom_bytes a + atom_bytes b)
 
 abbrev pub new_pair_of_numbers : ℕ → ℤ → ℤ → Applied
-new_pair_of_numbers cost a b = if fits_128 a && fits_128 b then written_pair cost (shortest_atom a) (shortest_atom b) else TooWide
+new_pair_of_numbers cost a b = or_wide (if_fits a) (λ a. or_wide (if_fits b) (λ b. written_pair cost (shortest_atom a) (shortest_atom b)))
 
 abbrev pub lengths : List (List ℕ) → ℕ
 lengths atoms = sum_by length atoms
@@ -160,17 +173,24 @@ raised cost operands = Fails (Raised (list_tree operands))
 
 -- ---- atoms
 
--- =: 1 where the bytes are equal, else nil
-abbrev pub equal_flag : ℕ → List Tree → Applied
-equal_flag cost operands = two_atoms operands (λ a b. free (flag (bytes_eq a b)) (cost + (length a + length b)))
+-- 1 where the bytes of two atoms compare so, else nil
+abbrev pub compared : (List ℕ → List ℕ → Bool) → ℕ → List Tree → Applied
+compared holds cost operands = two_atoms operands (λ a b. free (flag (holds a b)) (cost + (length a + length b)))
 
--- >s: 1 where the first is larger by bytes, a proper prefix being smaller
+-- =: where they are equal
+abbrev pub equal_flag : ℕ → List Tree → Applied
+equal_flag cost operands = compared bytes_eq cost operands
+
+-- >s: where the first is larger, a proper prefix being smaller
 abbrev pub bytes_greater_flag : ℕ → List Tree → Applied
-bytes_greater_flag cost operands = two_atoms operands (λ a b. free (flag (is_gt (slice_cmp nat_cmp a b))) (cost + (length a + length b)))
+bytes_greater_flag cost operands = compared (λ a b. is_gt (slice_cmp nat_cmp a b)) cost operands
+
+abbrev pub joined_hash : List (List ℕ) → List ℕ
+joined_hash atoms = sha256 (concat atoms)
 
 -- sha256: the hash of their concatenation
 abbrev pub hash_of : ℕ → List Tree → Applied
-hash_of cost operands = atoms operands (λ atoms. new_atom (cost + 134 * length atoms + 2 * lengths atoms) (sha256 (concat atoms)))
+hash_of cost operands = atoms operands (λ atoms. new_atom (cost + 134 * length atoms + 2 * lengths atoms) (joined_hash atoms))
 
 -- 0 <= start <= end <= length
 abbrev pub is_part : ℤ → ℤ → ℕ → Bool
@@ -189,9 +209,12 @@ abbrev pub part_of : ℕ → List Tree → Applied
 part_of cost operands = two_or_three operands (λ a start end. atom_at 0 a (λ a. number_at 1 start (λ start. number_or (pos (length a)) 2 end (λ end.
     part_or_fault cost (part a (number start) end)))))
 
--- strlen
+-- strlen: the length, at 1 more for each byte
+abbrev pub new_length : (cost size : ℕ) → Applied
+new_length cost size = new_number (cost + size) (pos size)
+
 abbrev pub length_of : ℕ → List Tree → Applied
-length_of cost operands = one operands (λ a. atom_at 0 a (λ a. new_number (cost + length a) (pos (length a))))
+length_of cost operands = one operands (λ a. atom_at 0 a (λ a. new_length cost (length a)))
 
 -- concat
 abbrev pub concat_of : ℕ → List Tree → Applied
@@ -202,16 +225,20 @@ concat_of cost operands = atoms operands (λ atoms. written (cost + 135 * length
 -- goes on from the left, where each partial result has to fit
 abbrev pub from_left : (ℤ → ℤ → ℤ) → ℤ → List ℤ → (ℤ → Applied) → Applied
 from_left step so_far [] go = go so_far
-from_left step so_far (n ∷ ns) go = if fits_128 (step so_far n) then from_left step (step so_far n) ns go else TooWide
+from_left step so_far (n ∷ ns) go = or_wide (if_fits (step so_far n)) (λ next. from_left step next ns go)
+
+-- what the operands of a sum or difference cost
+abbrev pub terms_cost : List (List ℕ) → ℕ
+terms_cost atoms = 320 * length atoms + 3 * lengths atoms
 
 -- +: the sum, 0 for none
 abbrev pub sum_of : ℕ → List Tree → Applied
-sum_of cost operands = numbers operands (λ atoms. from_left ◌+ℤ◌ (pos 0) (map number atoms) (new_number (cost + 320 * length atoms + 3 * lengths atoms)))
+sum_of cost operands = numbers operands (λ atoms. from_left ◌+ℤ◌ (pos 0) (map number atoms) (new_number (cost + terms_cost atoms)))
 
 -- -: the first less the others, 0 for none
 abbrev pub difference_of : ℕ → List Tree → Applied
 difference_of cost operands = numbers operands (λ atoms. let first = get_or atoms 0 [] in
-    from_left ◌-ℤ◌ (number first) (map number (drop 1 atoms)) (new_number (cost + 320 * length atoms + 3 * lengths atoms)))
+    from_left ◌-ℤ◌ (number first) (map number (drop 1 atoms)) (new_number (cost + terms_cost atoms)))
 
 -- what an operand of that length costs beside a running product: 885, 6 per byte of both, and the product of the two
 -- lengths / 128
@@ -240,23 +267,28 @@ quotient_of cost operands = two_numbers operands (λ a b. unless_zero (number b)
 abbrev pub quotient_and_remainder : ℕ → List Tree → Applied
 quotient_and_remainder cost operands = two_numbers operands (λ a b. unless_zero (number b) (new_pair_of_numbers (cost + 6 * (length a + length b)) (quotient (number a) (number b)) (remainder (number a) (number b))))
 
+abbrev pub is_greater : (a b : List ℕ) → Bool
+is_greater a b = int_lt (number b) (number a)
+
 -- >: 1 where the first is larger, else nil
 abbrev pub greater_flag : ℕ → List Tree → Applied
-greater_flag cost operands = two_numbers operands (λ a b. free (flag (int_lt (number b) (number a))) (cost + 2 * (length a + length b)))
+greater_flag cost operands = two_numbers operands (λ a b. free (flag (is_greater a b)) (cost + 2 * (length a + length b)))
 
 -- a shifted number, of a value of that length
 abbrev pub new_shifted : (cost size : ℕ) → ℤ → Applied
-new_shifted cost size n = or_wide (if_fits n) (λ n. written (cost + 3 * (size + length (shortest_atom n))) (shortest_atom n))
+new_shifted cost size n = new_number (cost + 3 * (size + length (shortest_atom n))) n
 
--- ash: the value times 2 ^ shift, rounded down
+-- the value, as it is read, times 2 ^ shift, rounded down
+abbrev pub shift_of : (List ℕ → ℤ) → ℕ → List Tree → Applied
+shift_of value cost operands = two_numbers operands (λ a by. if is_shift (number by) then new_shifted cost (length a) (shifted (value a) (number by)) else Fails WrongShift)
+
+-- ash: the value read as a number
 abbrev pub shift_of_number : ℕ → List Tree → Applied
-shift_of_number cost operands = two_numbers operands (λ a by. let n = shifted (number a) (number by) in
-    if is_shift (number by) then new_shifted cost (length a) n else Fails WrongShift)
+shift_of_number cost operands = shift_of number cost operands
 
--- lsh: the same of the value read without sign
+-- lsh: the value read without sign
 abbrev pub shift_of_bits : ℕ → List Tree → Applied
-shift_of_bits cost operands = two_numbers operands (λ a by. let n = shifted (pos (unsigned a)) (number by) in
-    if is_shift (number by) then new_shifted cost (length a) n else Fails WrongShift)
+shift_of_bits cost operands = shift_of (λ a. pos (unsigned a)) cost operands
 
 -- what is made of numbers bit by bit: of two, and of none
 pub record Bitwise : Type 0 where
@@ -272,8 +304,11 @@ disjunction = record { step = int_bit_or w128; none = pos 0 }
 abbrev pub exclusion : Bitwise
 exclusion = record { step = int_bit_xor w128; none = pos 0 }
 
+abbrev pub joined : Bitwise → List ℤ → ℤ
+joined bitwise numbers = fold bitwise.step bitwise.none numbers
+
 abbrev pub bits_of : Bitwise → ℕ → List Tree → Applied
-bits_of bitwise cost operands = numbers operands (λ atoms. new_number (cost + 264 * length atoms + 3 * lengths atoms) (fold bitwise.step bitwise.none (map number atoms)))
+bits_of bitwise cost operands = numbers operands (λ atoms. new_number (cost + 264 * length atoms + 3 * lengths atoms) (joined bitwise (map number atoms)))
 
 -- logand: -1 for none
 abbrev pub and_of : ℕ → List Tree → Applied
@@ -289,7 +324,7 @@ xor_of cost operands = bits_of exclusion cost operands
 
 -- lognot: -1 less the number
 abbrev pub complement_of : ℕ → List Tree → Applied
-complement_of cost operands = one operands (λ a. number_at 0 a (λ a. new_number (cost + 3 * length a) (negsuc 0 -ℤ number a)))
+complement_of cost operands = one operands (λ a. number_at 0 a (λ a. new_number (cost + 3 * length a) (complement (number a))))
 
 -- ---- truth
 
@@ -300,10 +335,20 @@ nil_flag cost operands = one operands (λ operand. free (flag (is_nil operand)) 
 abbrev pub is_true : Tree → Bool
 is_true tree = not (is_nil tree)
 
--- any: 1 where one isn't nil, else nil
-abbrev pub any_flag : ℕ → List Tree → Applied
-any_flag cost operands = free (flag (list_any is_true operands)) (cost + 300 * length operands)
+abbrev pub is_one_true : List Tree → Bool
+is_one_true trees = list_any is_true trees
 
--- all: 1 where none is nil, else nil
+abbrev pub are_all_true : List Tree → Bool
+are_all_true trees = list_all is_true trees
+
+-- 1 where this holds of the operands, else nil
+abbrev pub truth_flag : (List Tree → Bool) → ℕ → List Tree → Applied
+truth_flag holds cost operands = free (flag (holds operands)) (cost + 300 * length operands)
+
+-- any: one isn't nil
+abbrev pub any_flag : ℕ → List Tree → Applied
+any_flag cost operands = truth_flag is_one_true cost operands
+
+-- all: none is nil
 abbrev pub all_flag : ℕ → List Tree → Applied
-all_flag cost operands = free (flag (list_all is_true operands)) (cost + 300 * length operands)
+all_flag cost operands = truth_flag are_all_true cost operands

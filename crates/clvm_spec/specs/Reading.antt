@@ -3,6 +3,7 @@
 use Rattle.std.specs.Prelude.{ℕ, zero, suc, ◌+◌, ◌*◌, ◌-◌, ◌==◌, List, [], ◌∷◌, length, take, drop, nat_lt, if◌then◌else◌, Option, Some, None}
 use Rattle.clvm_spec.specs.Tree.{Tree, Atom, Pair}
 use Rattle.clvm_spec.specs.Places.{place_of}
+use Rattle.clvm_spec.specs.Spelling.{is_bare, pair_mark}
 
 pub data Flaw : Type 0 where
   -- The bytes end before the tree does.
@@ -12,7 +13,7 @@ pub data Flaw : Type 0 where
   -- 0xf8 to 0xfe begin no tree.
   BadPrefix : Flaw
 
--- how a tree begins: with 0xff, the mark of a pair, or with the spelling of one atom
+-- how a tree begins: with the mark of a pair, or with the spelling of one atom
 pub data Head : Type 0 where
   PairMark : Head
   Leaf : List ℕ → Head
@@ -25,12 +26,10 @@ pub data Beginning : Type 0 where
 -- One byte below 0x80 needs no prefix.
 abbrev pub leaf : List ℕ → List ℕ → Beginning
 leaf [] rest = Begins (Leaf []) rest
-leaf (b ∷ []) rest = if nat_lt b 0x80 then Flawed LongSpelling else Begins (Leaf (b ∷ [])) rest
+leaf (b ∷ []) rest = if is_bare b then Flawed LongSpelling else Begins (Leaf (b ∷ [])) rest
 leaf (b ∷ c ∷ atom) rest = Begins (Leaf (b ∷ c ∷ atom)) rest
 
--- Where the bytes end within a prefix, or within an atom, the tree is cut.
-
--- an atom of this many bytes, behind its prefix
+-- an atom of this many bytes, behind its prefix: where bytes are missing, the tree is cut
 abbrev pub atom_behind : ℕ → List ℕ → Beginning
 atom_behind size bytes = if nat_lt (length bytes) size then Flawed Cut else leaf (take size bytes) (drop size bytes)
 
@@ -38,41 +37,23 @@ atom_behind size bytes = if nat_lt (length bytes) size then Flawed Cut else leaf
 abbrev pub long_atom : ℕ → ℕ → List ℕ → Beginning
 long_atom least size bytes = if nat_lt size least then Flawed LongSpelling else atom_behind size bytes
 
--- behind a first byte 0xc0 to 0xdf, 0xe0 to 0xef, 0xf0 to 0xf7, with the high bits of the length
-abbrev pub behind_two : ℕ → List ℕ → Beginning
-behind_two high [] = Flawed Cut
-behind_two high (b ∷ rest) = long_atom 0x40 (high * 256 + b) rest
+-- the same, where so many bytes of the prefix, the lower ones of the size, are still to come: a prefix may be cut, too
+abbrev pub prefixed : (more least size : ℕ) → List ℕ → Beginning
+prefixed zero least size bytes = long_atom least size bytes
+prefixed (suc more) least size [] = Flawed Cut
+prefixed (suc more) least size (b ∷ rest) = prefixed more least (size * 256 + b) rest
 
-abbrev pub behind_three : ℕ → List ℕ → Beginning
-behind_three high [] = Flawed Cut
-behind_three high (b ∷ []) = Flawed Cut
-behind_three high (b ∷ c ∷ rest) = long_atom 0x2000 ((high * 256 + b) * 256 + c) rest
-
-abbrev pub behind_four : ℕ → List ℕ → Beginning
-behind_four high [] = Flawed Cut
-behind_four high (b ∷ []) = Flawed Cut
-behind_four high (b ∷ c ∷ []) = Flawed Cut
-behind_four high (b ∷ c ∷ d ∷ rest) = long_atom 0x10_0000 (((high * 256 + b) * 256 + c) * 256 + d) rest
-
--- what a first byte from 0x80 on begins
-abbrev pub from_f8 : ℕ → List ℕ → Beginning
-from_f8 b rest = if b == 0xff then Begins PairMark rest else Flawed BadPrefix
-
-abbrev pub from_f0 : ℕ → List ℕ → Beginning
-from_f0 b rest = if nat_lt b 0xf8 then behind_four (b - 0xf0) rest else from_f8 b rest
-
-abbrev pub from_e0 : ℕ → List ℕ → Beginning
-from_e0 b rest = if nat_lt b 0xf0 then behind_three (b - 0xe0) rest else from_f0 b rest
-
-abbrev pub from_c0 : ℕ → List ℕ → Beginning
-from_c0 b rest = if nat_lt b 0xe0 then behind_two (b - 0xc0) rest else from_e0 b rest
-
-abbrev pub from_80 : ℕ → List ℕ → Beginning
-from_80 b rest = if nat_lt b 0xc0 then atom_behind (b - 0x80) rest else from_c0 b rest
-
+-- A first byte of a prefix has the high bits of the length.
 unfoldable pub head_at : List ℕ → Beginning
 head_at [] = Flawed Cut
-head_at (b ∷ rest) = if nat_lt b 0x80 then Begins (Leaf (b ∷ [])) rest else from_80 b rest
+head_at (b ∷ rest) =
+    if is_bare b then Begins (Leaf (b ∷ [])) rest
+    else if nat_lt b 0xc0 then atom_behind (b - 0x80) rest
+    else if nat_lt b 0xe0 then prefixed 1 0x40 (b - 0xc0) rest
+    else if nat_lt b 0xf0 then prefixed 2 0x2000 (b - 0xe0) rest
+    else if nat_lt b 0xf8 then prefixed 3 0x10_0000 (b - 0xf0) rest
+    else if b == pair_mark then Begins PairMark rest
+    else Flawed BadPrefix
 
 -- the tree at the front and the bytes after it, or the flaw and the bytes from its place on
 pub data Read : Type 0 where
@@ -105,15 +86,15 @@ unfoldable pub tree_at_front : List ℕ → Read
 tree_at_front bytes = tree_within (suc (length bytes)) bytes
 
 -- what a reader answers: the tree at the front and how many bytes spell it, or the first flaw and its place
-pub data Front : Type 0 where
-  HasTree : (tree : Tree) (count : ℕ) → Front
-  HasFlaw : (flaw : Flaw) (place : ℕ) → Front
+pub data FrontRead : Type 0 where
+  HasTree : (tree : Tree) (count : ℕ) → FrontRead
+  HasFlaw : (flaw : Flaw) (place : ℕ) → FrontRead
 
-abbrev pub front_of : List ℕ → Read → Front
+abbrev pub front_of : List ℕ → Read → FrontRead
 front_of bytes (Found tree rest) = HasTree tree (place_of bytes rest)
 front_of bytes (Faulty flaw from) = HasFlaw flaw (place_of bytes from)
 
-abbrev pub front_read : List ℕ → Front
+abbrev pub front_read : List ℕ → FrontRead
 front_read bytes = front_of bytes (tree_at_front bytes)
 
 -- the same where the tree is to be all of the bytes
@@ -123,13 +104,12 @@ pub data Whole : Type 0 where
   -- Bytes are left behind the tree, from this place on.
   IsLonger : (place : ℕ) → Whole
 
-abbrev pub whole_of : List ℕ → Read → Whole
-whole_of bytes (Found tree []) = IsTree tree
-whole_of bytes (Found tree (b ∷ rest)) = IsLonger (place_of bytes (b ∷ rest))
-whole_of bytes (Faulty flaw from) = IsFlawed flaw (place_of bytes from)
+abbrev pub whole_of : ℕ → FrontRead → Whole
+whole_of size (HasTree tree count) = if count == size then IsTree tree else IsLonger count
+whole_of size (HasFlaw flaw place) = IsFlawed flaw place
 
 abbrev pub whole_read : List ℕ → Whole
-whole_read bytes = whole_of bytes (tree_at_front bytes)
+whole_read bytes = whole_of (length bytes) (front_read bytes)
 
 -- the tree that bytes spell, all of the bytes
 abbrev pub if_tree : Whole → Option Tree

@@ -1,11 +1,14 @@
 -- Bytes that are exactly one spelled tree, and not too many. Source: CLVM reference; the limit is this project's own.
-use Rattle.std.specs.Prelude.{ℕ, ◌^◌, ◌&&◌, Bool, List, length, nat_le, Option, Some, None, is_some, unwrap_or, if◌then◌else◌}
+use Rattle.std.specs.Prelude.{ℕ, ◌&&◌, Bool, List, length, nat_le, Option, Some, None, is_some, unwrap_or, if◌then◌else◌}
 use Rattle.clvm_spec.specs.Tree.{Tree, nil}
 use Rattle.clvm_spec.specs.Reading.{tree_of}
 
--- one spelled tree, in at most 67,108,864 bytes
+-- how many bytes are not too many
+abbrev pub most_spelled : ℕ
+most_spelled = 67_108_864
+
 abbrev pub is_spelled : List ℕ → Bool
-is_spelled bytes = is_some (tree_of bytes) && nat_le (length bytes) (2 ^ 26)
+is_spelled bytes = is_some (tree_of bytes) && nat_le (length bytes) most_spelled
 
 abbrev pub if_spelled : List ℕ → Option (List ℕ)
 if_spelled bytes = if is_spelled bytes then Some bytes else None

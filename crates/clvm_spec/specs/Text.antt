@@ -6,19 +6,22 @@ use Rattle.hex.specs.Hex.{encode_lower}
 use Rattle.clvm_spec.specs.declared.scan_kind.ScanKind.{ScanKind}
 use Rattle.clvm_spec.specs.Tree.{Tree, Atom, Pair}
 use Rattle.clvm_spec.specs.Numbers.{number, shortest_atom}
-use Rattle.clvm_spec.specs.OperatorTable.{Operator, operator_of, operator_named}
+use Rattle.clvm_spec.specs.OperatorTable.{Operator, operator_at, operator_named}
 use Rattle.clvm_spec.specs.Places.{place_of}
-use Rattle.clvm_spec.specs.Tokens.{Front, Took, Unread, AtEnd, token_of}
-use Rattle.clvm_spec.specs.Grammar.{Language, Parsed, Parses, Breaks, form_at, list_from}
+use Rattle.clvm_spec.specs.Tokens.{Front, Took, Unread, AtEnd, hex_mark, token_of}
+use Rattle.clvm_spec.specs.Grammar.{Language, Parsed, Parses, Breaks, outer_form}
 
 -- ---- printing
 
-abbrev pub is_short_number : List ℕ → Bool
-is_short_number bytes = nat_le (length bytes) 2 && bytes_eq (shortest_atom (number bytes)) bytes
+abbrev pub is_decimal : List ℕ → Bool
+is_decimal bytes = nat_le (length bytes) 2 && bytes_eq (shortest_atom (number bytes)) bytes
+
+abbrev pub hex_text : List ℕ → List ℕ
+hex_text bytes = hex_mark ++ encode_lower bytes
 
 -- An atom of 1 or 2 bytes that is the shortest of its number is written in decimal, every other in hexadecimal.
 abbrev pub bytes_text : List ℕ → List ℕ
-bytes_text bytes = if is_short_number bytes then signed_decimal (number bytes) else codes "0x" ++ encode_lower bytes
+bytes_text bytes = if is_decimal bytes then signed_decimal (number bytes) else hex_text bytes
 
 abbrev pub atom_text : List ℕ → List ℕ
 atom_text [] = codes "()"
@@ -30,9 +33,7 @@ name_or_text None bytes = atom_text bytes
 name_or_text (Some row) bytes = row.name
 
 abbrev pub head_text : List ℕ → List ℕ
-head_text [] = atom_text []
-head_text (code ∷ []) = name_or_text (operator_of code) (code ∷ [])
-head_text (a ∷ b ∷ more) = atom_text (a ∷ b ∷ more)
+head_text bytes = name_or_text (operator_at bytes) bytes
 
 -- nil ends a list, and a last atom that isn't nil stands behind a dot
 abbrev pub end_text : List ℕ → List ℕ
@@ -51,16 +52,16 @@ opening AsHead = codes "("
 opening Alone = codes "("
 opening AsRest = codes " "
 
-abbrev pub first_of : Position → Position
-first_of AsHead = AsHead
-first_of Alone = AsHead
-first_of AsRest = Alone
+abbrev pub first_position : Position → Position
+first_position AsHead = AsHead
+first_position Alone = AsHead
+first_position AsRest = Alone
 
 abbrev pub text_at : Position → Tree → List ℕ
 text_at AsHead (Atom bytes) = head_text bytes
 text_at Alone (Atom bytes) = atom_text bytes
 text_at AsRest (Atom bytes) = end_text bytes
-text_at position (Pair first rest) = opening position ++ text_at (first_of position) first ++ text_at AsRest rest
+text_at position (Pair first rest) = opening position ++ text_at (first_position position) first ++ text_at AsRest rest
 
 abbrev pub printed : Tree → List ℕ
 printed tree = text_at Alone tree
@@ -77,6 +78,7 @@ abbrev pub named : List ℕ → Option Operator → Named
 named from None = Unknown from
 named from (Some row) = Names (Atom (row.code ∷ []))
 
+-- As in the grammar, a first unknown name stands before all behind it.
 abbrev pub paired : Named → Named → Named
 paired (Names first) (Names rest) = Names (Pair first rest)
 paired (Names first) (Unknown from) = Unknown from
@@ -100,7 +102,7 @@ abbrev pub ParsedTree : Type 0
 ParsedTree = Parsed Named (List ℕ)
 
 abbrev pub form_of : List ℕ → ParsedTree
-form_of text = form_at clvm (list_from clvm) 0 (token_of text)
+form_of text = outer_form clvm (token_of text)
 
 -- ---- scanning: the whole text
 
@@ -113,16 +115,21 @@ pub data Scanned : Type 0 where
   -- a token behind the form
   LeftOver : (place : ℕ) → Scanned
 
-abbrev pub at_last : List ℕ → Tree → Front → Scanned
-at_last text tree AtEnd = Scans tree
-at_last text tree (Unread kind from) = Unreadable kind (place_of text from)
-at_last text tree (Took token from rest) = LeftOver (place_of text from)
+-- An unknown name stands before what is wrong behind it.
+abbrev pub broken : List ℕ → ScanKind → Option (List ℕ) → List ℕ → Scanned
+broken text kind None from = Unreadable kind (place_of text from)
+broken text kind (Some name) from = Unnamed (place_of text name)
+
+-- what a form is with what stands behind it
+abbrev pub at_last : List ℕ → Named → Front → Scanned
+at_last text (Unknown name) front = Unnamed (place_of text name)
+at_last text (Names tree) AtEnd = Scans tree
+at_last text (Names tree) (Unread kind from) = broken text kind None from
+at_last text (Names tree) (Took token from rest) = LeftOver (place_of text from)
 
 abbrev pub whole : List ℕ → ParsedTree → Scanned
-whole text (Parses (Names tree) rest) = at_last text tree (token_of rest)
-whole text (Parses (Unknown name) rest) = Unnamed (place_of text name)
-whole text (Breaks kind None from) = Unreadable kind (place_of text from)
-whole text (Breaks kind (Some name) from) = Unnamed (place_of text name)
+whole text (Parses form rest) = at_last text form (token_of rest)
+whole text (Breaks kind unknown from) = broken text kind unknown from
 
 -- Of all faults of a text the first from the front is told.
 unfoldable pub scanned : List ℕ → Scanned

@@ -14,7 +14,11 @@ abbrev pub bytes_of : Tree → List ℕ
 bytes_of (Atom bytes) = bytes
 bytes_of (Pair first rest) = []
 
--- the proper list of trees: pairs whose rests end in nil
+-- a list as pairs whose rests lead to what ends it
+abbrev pub listed : {T : Type 0} → T → (T → T → T) → List T → T
+listed last pair [] = last
+listed last pair (first ∷ others) = pair first (listed last pair others)
+
+-- the proper list of trees, which nil ends
 abbrev pub list_tree : List Tree → Tree
-list_tree [] = nil
-list_tree (tree ∷ trees) = Pair tree (list_tree trees)
+list_tree trees = listed nil Pair trees

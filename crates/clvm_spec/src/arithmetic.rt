@@ -4,6 +4,13 @@ ghost use Rattle.std.specs.Prelude.{◌≡◌, pos, ◌-ℤ◌, false, if◌then
 ghost use Rattle.clvm_spec.specs.Arithmetic.{if_fits, is_zero, quotient, is_shift};
 ghost use Rattle.clvm_spec.specs.Path.{leading_zeros};
 
+/// Whether a number is 0.
+pub fn is_zero(number: i128) -> bool
+    ensures { result ≡ is_zero number }
+{
+    number == 0
+}
+
 /// The quotient rounded down, None exactly where 128 bits don't hold it. The divisor isn't 0.
 pub fn quotient_of(number: i128, divisor: i128) -> Option<i128>
     requires { is_zero divisor ≡ false }
@@ -23,7 +30,7 @@ pub fn quotient_of(number: i128, divisor: i128) -> Option<i128>
 fn less_one_unless_whole(quotient: i128, rest: i128) -> Option<i128>
     ensures { result ≡ if_fits (if is_zero rest then quotient else (quotient -ℤ pos 1)) }
 {
-    if rest == 0 {
+    if is_zero(rest) {
         Some(quotient)
     } else {
         quotient.checked_sub(1)

@@ -1,4 +1,4 @@
-ghost use Rattle.clvm_spec.specs.Laws.{HasOneSpelling, BeginsNoOther, FindsSpelled, FoundIsSpelled, FaultIsFound, WholeIsSpelled, ShortestHasNumber, ShortestIsItself, ShortestIsLeast};
+ghost use Rattle.clvm_spec.specs.Laws.{HasOneSpelling, BeginsNoOther, FindsSpelled, ReadsSpelled, FoundIsSpelled, FaultIsFound, FlawIsFound, WholeIsSpelled, ShortestHasNumber, ShortestIsItself, ShortestIsLeast};
 
 /// The law of spellings: a tree has at most one, and none begins another.
 pub fn spellings_are_apart()
@@ -6,12 +6,14 @@ pub fn spellings_are_apart()
     ensures apart { BeginsNoOther }
 {}
 
-/// The law of reading: what is spelled at the front is found, and what is found is spelled there. Else the flaw is
-/// found that stands behind the longest list of tokens that leaves trees open.
+/// The law of reading: what is spelled at the front is found, with the count of its bytes, and what is found is spelled
+/// there. Else the flaw is found that stands behind the longest list of heads that leaves trees open.
 pub fn reading_finds_spellings()
     ensures finds { FindsSpelled }
+    ensures reads { ReadsSpelled }
     ensures found { FoundIsSpelled }
     ensures fault { FaultIsFound }
+    ensures flaw { FlawIsFound }
     ensures whole { WholeIsSpelled }
 {}
 

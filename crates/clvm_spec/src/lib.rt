@@ -10,6 +10,8 @@ pub mod fuel;
 pub mod fuel_laws;
 mod nesting;
 mod numbers;
+pub mod operands;
+pub mod path_laws;
 pub mod scan_kind;
 #[cfg(test)]
 mod tests;
@@ -18,4 +20,5 @@ pub mod text_laws;
 pub use fuel::{Fuel, Which};
 pub use nesting::nests_within;
 pub use numbers::{number_length, shortest_bytes};
+pub use operands::Operands;
 pub use scan_kind::ScanKind;

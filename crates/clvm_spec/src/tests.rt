@@ -1,4 +1,4 @@
-use super::arithmetic::{is_shift_amount, leading_zero_bytes, quotient_of};
+use super::arithmetic::{is_shift_amount, is_zero, leading_zero_bytes, quotient_of};
 use super::{ScanKind, nests_within, number_length, shortest_bytes};
 
 #[test]
@@ -18,14 +18,14 @@ fn calculates_as_the_table_says(rt: HostRuntime) {
         (i128::MAX, -1, Some(-i128::MAX)),
         (i128::MIN, 1, Some(i128::MIN)),
     ] {
-        if divisor != 0 {
-            assert_eq!(rt;
-                quotient_of(number, divisor),
-                quotient,
-                "{number} / {divisor}"
-            );
-        }
+        assert!(rt; !is_zero(divisor));
+        assert_eq!(rt;
+            quotient_of(number, divisor),
+            quotient,
+            "{number} / {divisor}"
+        );
     }
+    assert!(rt; is_zero(0));
     for (by, is_shift) in [
         (65_535, true),
         (65_536, false),

@@ -3,4 +3,4 @@ use Rattle.clvm_spec.proofs.GrammarLaws.{form_within}
 use Rattle.clvm_spec.proofs.text_laws.steps_are_within_the_text.Goals as goal
 
 pub returns : goal.returns
-returns c = λ bound text. form_within clvm bound 0 text
+returns c = form_within clvm

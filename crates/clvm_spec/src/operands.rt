@@ -1,0 +1,13 @@
+//! What operators are applied to. Contracts and code share this type.
+
+/// What each operand of an operator has to be.
+#[derive(Clone, Copy, Debug, PartialEq, Eq)]
+pub enum Operands {
+    Any,
+    Pairs,
+    Atoms,
+    /// Atoms of at most 16 bytes.
+    Numbers,
+    /// An atom as the first, numbers as the others.
+    AtomAndNumbers,
+}
