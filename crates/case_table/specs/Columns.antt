@@ -1,6 +1,7 @@
 -- How a row of the table writes the columns of the definitions' table. This project's own.
 use Rattle.std.specs.Prelude.{ℕ, Option, Some, None}
-use Rattle.clvm_spec.specs.OperatorTable.{Operands, Any, Pairs, Atoms, Numbers, AtomAndNumbers}
+use Rattle.clvm_spec.specs.declared.operands.Operands.{Operands}
+use Rattle.clvm_spec.specs.declared.operands.Operands.TheVariants.{Any, Pairs, Atoms, Numbers, AtomAndNumbers}
 use Rattle.case_table.specs.declared.operator_table.TheConstants.{ANY, PAIRS, ATOMS, NUMBERS, ATOM_AND_NUMBERS}
 
 -- the largest count of operands: 255 stands for any count

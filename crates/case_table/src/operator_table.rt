@@ -89,8 +89,8 @@ pub fn operators() -> &'static [Row; 29]
     &OPERATORS
 }
 
-/// A `match` on the code of an operator. The arm of a row is what the macro `$arm` makes of its code, its name and the name
-/// of its arm, as `$arm!(3, "i", choice)`; `$otherwise` is the arm of all other codes.
+/// A `match` on the code of an operator. The arm of a row is what the macro `$arm` makes of its code, its name, its cost and
+/// the name of its arm, as `$arm!(3, "i", 33, choice)`; `$otherwise` is the arm of all other codes.
 #[macro_export]
 macro_rules! by_operator {
     ($operator:expr, $arm:ident, $otherwise:expr) => {
@@ -99,7 +99,7 @@ macro_rules! by_operator {
     (($operator:expr, $arm:ident, $otherwise:expr)
         $(($code:literal, $name:literal, $low:literal, $high:literal, $cost:literal, $kind:ident, $function:ident))*) => {
         match $operator {
-            $($code => $arm!($code, $name, $function),)*
+            $($code => $arm!($code, $name, $cost, $function),)*
             _ => $otherwise,
         }
     };
@@ -111,7 +111,7 @@ pub fn name_of(code: u8) -> Option<&'static str>
     ensures { option_copied result ≡ option_map (λ row. row.name) (operator_of code) }
 {
     macro_rules! named {
-        ($code:literal, $name:literal, $function:ident) => {
+        ($code:literal, $name:literal, $cost:literal, $function:ident) => {
             Some($name)
         };
     }

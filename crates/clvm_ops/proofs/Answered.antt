@@ -3,15 +3,14 @@ use Rattle.std.proofs.Common.{◌≡◌, ℕ, ◌+◌, ◌≤◌, ℤ, Bool, tru
 use Rattle.std.specs.Int.{w128}
 use Rattle.std.specs.Result.{IsErrAnd, IfOk, IfErr}
 use Rattle.std.proofs.lemmas.Result.{err_from_is_err_and}
-use Rattle.std.proofs.lemmas.Bool.{cond-true, cond-false, le-ltb}
+use Rattle.std.proofs.lemmas.Bool.{cond-true}
 use Rattle.clvm_spec.specs.declared.fuel.Fuel.{Fuel}
-use Rattle.clvm_spec.specs.Spending.{Suffices}
 use Rattle.clvm_spec.specs.Tree.{Tree, Atom}
 use Rattle.clvm_spec.specs.Outcomes.{Applied, Gives, WithinFuel, Enough, Lacks}
 use Rattle.clvm_spec.specs.Numbers.{shortest_atom}
 use Rattle.clvm_spec.specs.Arithmetic.{fits_128, if_fits}
 use Rattle.clvm_spec.specs.Operators.{or_wide, new_number, written}
-use Rattle.clvm_spec.specs.OperatorTable.{applied, within, within_cost}
+use Rattle.clvm_spec.specs.OperatorTable.{applied, unless_lacking, within}
 use Rattle.clvm_tree.specs.Nodes.{tree_at, IsKnown, Grows}
 use Rattle.clvm_tree.specs.Operators.{IsWithin, IsOpFault}
 use Rattle.clvm_tree.specs.declared.Node.{Node}
@@ -20,7 +19,7 @@ use Rattle.clvm_tree.specs.declared.operators.OpFault.{OpFault}
 use Rattle.clvm_tree.specs.declared.operators.OpFault.TheVariants as fault
 use Rattle.clvm_tree.proofs.OperatorLaws.{answers_law}
 use Rattle.clvm_tree.proofs.NodeLaws.{grows_same}
-use Rattle.clvm_ops.proofs.Fits.{held}
+use Rattle.clvm_ops.proofs.Fits.{is_held}
 use Rattle.clvm_tree.specs.Operators.{KeepsNodes}
 use Rattle.clvm_ops.specs.Answering.{Answers, IsGiven, IsCharged}
 use Rattle.clvm_ops.specs.declared.give.Charge.{Charge}
@@ -79,17 +78,12 @@ fault_same trees applied other f e is = rw e is
 pub answers_same : (old new : List Tree) (operands : ℕ) (left : Fuel) (applied other : Applied) (result : Result Answer OpFault) → other ≡ applied → Answers old new operands left applied result → Answers old new operands left other result
 answers_same old new operands left applied other result e answers = rw e answers
 
--- what is left suffices
-enough : (left : Fuel) (value : Tree) (cost pairs bytes : ℕ) → Suffices left (record { cost = cost; pairs = pairs; bytes = bytes }) → within_cost left value cost pairs bytes ≡ Enough (Gives value cost pairs bytes)
-enough left value cost pairs bytes s =
-    cond-false _ _ _ (le-ltb left.cost cost s.cost) ∙ cond-false _ _ _ (le-ltb left.pairs pairs s.pairs) ∙ cond-false _ _ _ (le-ltb left.bytes bytes s.bytes)
-
 -- a new value that was charged
 pub given_new : (old new : List Tree) (left : Fuel) (applied : Applied) (value : Tree) (cost pairs bytes : ℕ) (charge : Charge) (node : Node) (answer : Answer) → applied ≡ Gives value cost pairs bytes
     → IsCharged left cost pairs bytes charge → Grows old new → length new ≤ length old + pairs + bytes → IsKnown new node.0 → tree_at new node.0 ≡ value
     → answer ≡ record { value = node; cost = charge.cost; pairs = charge.pairs; bytes = charge.bytes } → IsGiven old new left applied answer
 given_new old new left applied value cost pairs bytes charge node answer e charged grows few known stands is =
-    let whole = ap (within left) e ∙ enough left value cost pairs bytes charged.enough in
+    let whole = ap (within left) e ∙ ap (λ l. unless_lacking l (Gives value cost pairs bytes)) charged.enough in
     let same : Gives value cost pairs bytes ≡ Gives (tree_at new node.0) charge.cost charge.pairs charge.bytes =
     ap (λ v. Gives v cost pairs bytes) (sym stands) ∙ ap (λ n. Gives (tree_at new node.0) n pairs bytes) (sym charged.cost_is)
     ∙ ap (λ n. Gives (tree_at new node.0) charge.cost n bytes) (sym charged.pairs_is) ∙ ap (λ n. Gives (tree_at new node.0) charge.cost charge.pairs n) (sym charged.bytes_is) in
@@ -102,14 +96,14 @@ given_new old new left applied value cost pairs bytes charge node answer e charg
 -- ---- numbers
 
 pub new_number_held : (cost : ℕ) (n : ℤ) → FitsSigned w128 n → new_number cost n ≡ written cost (shortest_atom n)
-new_number_held cost n h = ap (λ held. or_wide held (λ n. written cost (shortest_atom n))) (held n h)
+new_number_held cost n h = ap (λ held. or_wide held (λ n. written cost (shortest_atom n))) (is_held n h)
 
 -- It's asked once whether 128 bits hold a number.
-asked_again : (fits : Bool) (n : ℤ) (go : ℤ → Applied) → fits ≡ fits_128 n → or_wide (cond fits (Some n) None) (λ m. or_wide (if_fits m) go) ≡ or_wide (cond fits (Some n) None) go
-asked_again true n go e = ap (λ held. or_wide held go) (cond-true _ _ _ (sym e))
+asked_again : (fits : Bool) (n : ℤ) (go : ℤ → ℤ → Applied) → fits ≡ fits_128 n → or_wide (cond fits (Some n) None) (λ m. or_wide (if_fits m) (go m)) ≡ or_wide (cond fits (Some n) None) (go n)
+asked_again true n go e = ap (λ held. or_wide held (go n)) (cond-true _ _ _ (sym e))
 asked_again false n go e = refl
 
-pub asked_once : (n : ℤ) (go : ℤ → Applied) → or_wide (if_fits n) (λ m. or_wide (if_fits m) go) ≡ or_wide (if_fits n) go
+pub asked_once : (n : ℤ) (go : ℤ → ℤ → Applied) → or_wide (if_fits n) (λ m. or_wide (if_fits m) (go m)) ≡ or_wide (if_fits n) (go n)
 asked_once n go = asked_again (fits_128 n) n go refl
 
 -- what is given is within what is left

@@ -1,27 +1,27 @@
 -- Operators on the bytes of atoms, by what is read of their operands.
-use Rattle.std.proofs.Common.{Ordering, Less, Equal, Greater, ◌≡◌, ℕ, ◌+◌, ◌*◌, ◌<◌, pos, Bool, Some, List, [], ◌∷◌, ◌++◌, length, get_or, take, map, refl, sym, ap, ap₂, ◌∙◌, arith}
+use Rattle.std.proofs.Common.{Ordering, Less, Equal, Greater, ◌≡◌, ℕ, ◌+◌, ◌*◌, ◌<◌, Bool, Some, List, [], ◌∷◌, ◌++◌, length, get_or, take, map, refl, sym, ap, ap₂, ◌∙◌, arith}
 use Rattle.std.specs.Prelude.{bytes_eq}
 use Rattle.std.specs.List.{concat}
 use Rattle.std.specs.Ordering.{nat_cmp, is_gt, is_some_and, ordering_then, partial_ordering_then}
 use Rattle.std.specs.Cmp.Lexicographic.{slice_cmp, slice_partial_cmp}
-use Rattle.std.proofs.lemmas.List.{append-nil, length-append, length-map, map_more, map_push}
+use Rattle.std.proofs.lemmas.List.{append-nil, length-append, map_more, map_push}
 use Rattle.std.proofs.lemmas.List.Folds.{concat-append}
 use Rattle.std.proofs.lemmas.List.Sums.{sum_by-cons}
 use Rattle.sha2.specs.Sha256.{sha256}
 use Rattle.sha2.proofs.Facts256.{length-sha256}
 use Rattle.clvm_spec.specs.Tree.{Tree, Atom, bytes_of}
 use Rattle.clvm_spec.specs.Outcomes.{Applied, Gives}
-use Rattle.clvm_spec.specs.Operators.{two_atoms, equal_flag, bytes_greater_flag, length_of, hash_of, concat_of, lengths, new_atom, new_number, written, free, flag}
+use Rattle.clvm_spec.specs.Operators.{two_atoms, equal_flag, bytes_greater_flag, length_of, hash_of, concat_of, lengths, new_atom, new_length, written, free, flag}
 use Rattle.clvm_tree.specs.Nodes.{tree_at}
 use Rattle.clvm_tree.specs.Operators.{trees_at}
 use Rattle.clvm_tree.specs.declared.Node.{Node}
 use Rattle.clvm_ops.specs.OperandAtoms.{atoms_at, HaveAtoms}
-use Rattle.clvm_ops.proofs.NodeLists.{length-trees_at}
+use Rattle.clvm_ops.proofs.NodeLists.{count_atoms}
 
-pub equal_flag_is : (operands : List Tree) (x y : List ℕ) (same : Bool) → ((go : List ℕ → List ℕ → Applied) → two_atoms operands go ≡ go x y) → same ≡ bytes_eq x y
-    → equal_flag 117 operands ≡ free (flag same) (117 + (length x + length y))
-equal_flag_is operands x y same read e =
-    read (λ a b. free (flag (bytes_eq a b)) (117 + (length a + length b))) ∙ ap (λ s. free (flag s) (117 + (length x + length y))) (sym e)
+pub equal_flag_is : (cost : ℕ) (operands : List Tree) (x y : List ℕ) (same : Bool) → ((go : List ℕ → List ℕ → Applied) → two_atoms operands go ≡ go x y) → same ≡ bytes_eq x y
+    → equal_flag cost operands ≡ free (flag same) (cost + (length x + length y))
+equal_flag_is cost operands x y same read e =
+    read (λ a b. free (flag (bytes_eq a b)) (cost + (length a + length b))) ∙ ap (λ s. free (flag s) (cost + (length x + length y))) (sym e)
 
 then_some : (o p : Ordering) → partial_ordering_then (Some o) (Some p) ≡ Some (ordering_then o p)
 then_some Less p = refl
@@ -34,14 +34,14 @@ compared [] (y ∷ ys) = refl
 compared (x ∷ xs) [] = refl
 compared (x ∷ xs) (y ∷ ys) = ap (partial_ordering_then (Some (nat_cmp x y))) (compared xs ys) ∙ then_some (nat_cmp x y) (slice_cmp nat_cmp xs ys)
 
-pub bytes_greater_flag_is : (operands : List Tree) (x y : List ℕ) (greater : Bool) → ((go : List ℕ → List ℕ → Applied) → two_atoms operands go ≡ go x y)
-    → greater ≡ is_some_and is_gt (slice_partial_cmp (λ x y. Some (nat_cmp x y)) x y) → bytes_greater_flag 117 operands ≡ free (flag greater) (117 + (length x + length y))
-bytes_greater_flag_is operands x y greater read e =
-    read (λ a b. free (flag (is_gt (slice_cmp nat_cmp a b))) (117 + (length a + length b)))
-    ∙ ap (λ s. free (flag s) (117 + (length x + length y))) (sym (e ∙ ap (is_some_and is_gt) (compared x y)))
+pub bytes_greater_flag_is : (cost : ℕ) (operands : List Tree) (x y : List ℕ) (greater : Bool) → ((go : List ℕ → List ℕ → Applied) → two_atoms operands go ≡ go x y)
+    → greater ≡ is_some_and is_gt (slice_partial_cmp (λ x y. Some (nat_cmp x y)) x y) → bytes_greater_flag cost operands ≡ free (flag greater) (cost + (length x + length y))
+bytes_greater_flag_is cost operands x y greater read e =
+    read (λ a b. free (flag (is_gt (slice_cmp nat_cmp a b))) (cost + (length a + length b)))
+    ∙ ap (λ s. free (flag s) (cost + (length x + length y))) (sym (e ∙ ap (is_some_and is_gt) (compared x y)))
 
-pub length_of_is : (operands : List Tree) (a : Tree) (bytes : List ℕ) → operands ≡ a ∷ [] → a ≡ Atom bytes → length_of 173 operands ≡ new_number (173 + length bytes) (pos (length bytes))
-length_of_is operands a bytes list is = ap (length_of 173) (list ∙ ap (λ t. t ∷ []) is)
+pub length_of_is : (cost : ℕ) (operands : List Tree) (a : Tree) (bytes : List ℕ) → operands ≡ a ∷ [] → a ≡ Atom bytes → length_of cost operands ≡ new_length cost (length bytes)
+length_of_is cost operands a bytes list is = ap (length_of cost) (list ∙ ap (λ t. t ∷ []) is)
 
 pub atoms_push : (trees : List Tree) (nodes : List Node) (i : ℕ) (d : Node) → i < length nodes
     → concat (atoms_at trees (take (i + 1) nodes)) ≡ concat (atoms_at trees (take i nodes)) ++ bytes_of (tree_at trees (get_or nodes i d).0)
@@ -52,27 +52,24 @@ atoms_push trees nodes i d h =
     ∙ concat-append (atoms_at trees (take i nodes)) (bytes_of next ∷ [])
     ∙ ap (λ b. concat (atoms_at trees (take i nodes)) ++ b) (append-nil (bytes_of next))
 
-count_atoms : (trees : List Tree) (nodes : List Node) → length (atoms_at trees nodes) ≡ length nodes
-count_atoms trees nodes = length-map (trees_at trees nodes) bytes_of ∙ length-trees_at trees nodes
-
 length-concat : (atoms : List (List ℕ)) → length (concat atoms) ≡ lengths atoms
 length-concat [] = refl
 length-concat (a ∷ atoms) = length-append a (concat atoms) ∙ ap (λ n. length a + n) (length-concat atoms) ∙ sym (sum_by-cons length a atoms)
 
-pub hash_of_is : (trees : List Tree) (operands : List Node) (size : ℕ) → HaveAtoms trees operands size
-    → hash_of 407 (trees_at trees operands) ≡ Gives (Atom (sha256 (concat (atoms_at trees operands)))) (407 + 134 * length operands + 2 * size) 0 40
-hash_of_is trees operands size have =
+pub hash_of_is : (cost : ℕ) (trees : List Tree) (operands : List Node) (size : ℕ) → HaveAtoms trees operands size
+    → hash_of cost (trees_at trees operands) ≡ Gives (Atom (sha256 (concat (atoms_at trees operands)))) (cost + 134 * length operands + 2 * size) 0 40
+hash_of_is cost trees operands size have =
     let hash = sha256 (concat (atoms_at trees operands)) in
-    let cost : 407 + 134 * length (atoms_at trees operands) + 2 * lengths (atoms_at trees operands) ≡ 407 + 134 * length operands + 2 * size =
+    let costs : cost + 134 * length (atoms_at trees operands) + 2 * lengths (atoms_at trees operands) ≡ cost + 134 * length operands + 2 * size =
     omega (arith, have.size_is, count_atoms trees operands) in
     let bytes : length hash + 8 ≡ 40 = ap (λ n. n + 8) (length-sha256 (concat (atoms_at trees operands))) in
-    have.read (λ atoms. new_atom (407 + 134 * length atoms + 2 * lengths atoms) (sha256 (concat atoms))) ∙ ap₂ (λ c b. Gives (Atom hash) c 0 b) cost bytes
+    have.read (λ atoms. new_atom (cost + 134 * length atoms + 2 * lengths atoms) (sha256 (concat atoms))) ∙ ap₂ (λ c b. Gives (Atom hash) c 0 b) costs bytes
 
-pub concat_of_is : (trees : List Tree) (operands : List Node) (size : ℕ) → HaveAtoms trees operands size
-    → concat_of 142 (trees_at trees operands) ≡ Gives (Atom (concat (atoms_at trees operands))) (142 + 135 * length operands + 13 * size) 0 (size + 8)
-concat_of_is trees operands size have =
+pub concat_of_is : (cost : ℕ) (trees : List Tree) (operands : List Node) (size : ℕ) → HaveAtoms trees operands size
+    → concat_of cost (trees_at trees operands) ≡ Gives (Atom (concat (atoms_at trees operands))) (cost + 135 * length operands + 13 * size) 0 (size + 8)
+concat_of_is cost trees operands size have =
     let all = atoms_at trees operands in
-    let cost : 142 + 135 * length all + 3 * lengths all + 10 * length (concat all) ≡ 142 + 135 * length operands + 13 * size =
+    let costs : cost + 135 * length all + 3 * lengths all + 10 * length (concat all) ≡ cost + 135 * length operands + 13 * size =
     omega (arith, have.size_is, count_atoms trees operands, length-concat all) in
     let bytes : length (concat all) + 8 ≡ size + 8 = omega (arith, have.size_is, length-concat all) in
-    have.read (λ atoms. written (142 + 135 * length atoms + 3 * lengths atoms) (concat atoms)) ∙ ap₂ (λ c b. Gives (Atom (concat all)) c 0 b) cost bytes
+    have.read (λ atoms. written (cost + 135 * length atoms + 3 * lengths atoms) (concat atoms)) ∙ ap₂ (λ c b. Gives (Atom (concat all)) c 0 b) costs bytes

@@ -1,35 +1,23 @@
 -- Quotient and remainder in a pair.
-use Rattle.std.proofs.Common.{◌≡◌, ℕ, ◌+◌, ◌*◌, ℤ, Bool, true, false, cond, Some, None, Result, Ok, Err, List, length, FitsSigned, refl, sym, ap, ap₂, ◌∙◌, arith}
+use Rattle.std.proofs.Common.{◌≡◌, ℕ, ◌+◌, ◌*◌, ℤ, false, Some, Result, Ok, Err, List, length, FitsSigned, sym, ap, ap₂, ◌∙◌, arith}
 use Rattle.std.specs.Int.{w128}
 use Rattle.std.specs.Result.{IfOk, OnErr}
-use Rattle.std.proofs.lemmas.Bool.{cond-true, cond-false, and_from, and_left}
+use Rattle.std.proofs.lemmas.Bool.{cond-false}
 use Rattle.clvm_spec.specs.Tree.{Tree, Atom, Pair}
 use Rattle.clvm_spec.specs.Numbers.{number, shortest_atom}
-use Rattle.clvm_spec.specs.Arithmetic.{fits_128, if_fits, is_zero, quotient, remainder}
-use Rattle.clvm_spec.specs.Outcomes.{Applied, Gives, Fails, TooWide, ZeroDivisor}
-use Rattle.clvm_spec.specs.Operators.{two_numbers, unless_zero, written_pair, new_pair_of_numbers, quotient_and_remainder}
+use Rattle.clvm_spec.specs.Arithmetic.{if_fits, is_zero, quotient, remainder}
+use Rattle.clvm_spec.specs.Outcomes.{Applied, Gives, Fails, ZeroDivisor}
+use Rattle.clvm_spec.specs.Operators.{two_numbers, unless_zero, or_wide, written_pair, new_pair_of_numbers, quotient_and_remainder}
 use Rattle.clvm_tree.specs.Nodes.{tree_at, Grows, Adds}
 use Rattle.clvm_tree.specs.declared.Node.{Node}
 use Rattle.clvm_tree.proofs.NodeLaws.{grows_same, stays}
-use Rattle.clvm_ops.proofs.Fits.{fits}
-
-some_by : (b : Bool) (q n : ℤ) → Some q ≡ cond b (Some n) None → (b ≡ true) × (q ≡ n)
-some_by true q n e = (refl, cc)
-some_by false q n e = absurd cc
-
-none_by : (b : Bool) (n : ℤ) → None ≡ cond b (Some n) None → b ≡ false
-none_by true n e = absurd cc
-none_by false n e = refl
+use Rattle.clvm_ops.proofs.Fits.{is_held}
 
 pub pair_some : (cost : ℕ) (q r n d : ℤ) → Some q ≡ if_fits (quotient n d) → r ≡ remainder n d → FitsSigned w128 r
     → new_pair_of_numbers cost (quotient n d) (remainder n d) ≡ written_pair cost (shortest_atom q) (shortest_atom r)
 pair_some cost q r n d quotient_is remainder_is held =
-    let found = some_by (fits_128 (quotient n d)) q (quotient n d) quotient_is in
-    cond-true _ _ TooWide (and_from _ _ found.0 (ap fits_128 (sym remainder_is) ∙ fits r held))
-    ∙ ap₂ (λ a b. written_pair cost (shortest_atom a) (shortest_atom b)) (sym found.1) (sym remainder_is)
-
-pub pair_none : (cost : ℕ) (n d : ℤ) → None ≡ if_fits (quotient n d) → new_pair_of_numbers cost (quotient n d) (remainder n d) ≡ TooWide
-pair_none cost n d e = cond-false _ _ TooWide (and_left _ (fits_128 (remainder n d)) (none_by (fits_128 (quotient n d)) (quotient n d) e))
+    ap (λ first. or_wide first (λ a. or_wide (if_fits (remainder n d)) (λ b. written_pair cost (shortest_atom a) (shortest_atom b)))) (sym quotient_is)
+    ∙ ap (λ second. or_wide second (λ b. written_pair cost (shortest_atom q) (shortest_atom b))) (ap if_fits (sym remainder_is) ∙ is_held r held)
 
 pub written_pair_is : (cost : ℕ) (a b : List ℕ) (m n : ℕ) → m ≡ length a → n ≡ length b → written_pair cost a b ≡ Gives (Pair (Atom a) (Atom b)) (cost + 10 * (m + n)) 1 (m + n + 16)
 written_pair_is cost a b m n first second =
@@ -37,13 +25,13 @@ written_pair_is cost a b m n first second =
     let bytes : (length a + 8) + (length b + 8) ≡ m + n + 16 = omega arith in
     ap₂ (λ c k. Gives (Pair (Atom a) (Atom b)) c 1 k) costs bytes
 
-pub division_is : (operands : List Tree) (x y : List ℕ) (n d : ℤ) → ((go : List ℕ → List ℕ → Applied) → two_numbers operands go ≡ go x y) → n ≡ number x → d ≡ number y → is_zero d ≡ false
-    → quotient_and_remainder 1116 operands ≡ new_pair_of_numbers (1116 + 6 * (length x + length y)) (quotient n d) (remainder n d)
-division_is operands x y n d read first second some =
-    let cost = 1116 + 6 * (length x + length y) in
-    read (λ a b. unless_zero (number b) (new_pair_of_numbers (1116 + 6 * (length a + length b)) (quotient (number a) (number b)) (remainder (number a) (number b))))
-    ∙ cond-false _ (Fails ZeroDivisor) (new_pair_of_numbers cost (quotient (number x) (number y)) (remainder (number x) (number y))) (ap is_zero (sym second) ∙ some)
-    ∙ ap₂ (λ a b. new_pair_of_numbers cost (quotient a b) (remainder a b)) (sym first) (sym second)
+pub division_is : (cost : ℕ) (operands : List Tree) (x y : List ℕ) (n d : ℤ) → ((go : List ℕ → List ℕ → Applied) → two_numbers operands go ≡ go x y) → n ≡ number x → d ≡ number y → is_zero d ≡ false
+    → quotient_and_remainder cost operands ≡ new_pair_of_numbers (cost + 6 * (length x + length y)) (quotient n d) (remainder n d)
+division_is cost operands x y n d read first second some =
+    let costs = cost + 6 * (length x + length y) in
+    read (λ a b. unless_zero (number b) (new_pair_of_numbers (cost + 6 * (length a + length b)) (quotient (number a) (number b)) (remainder (number a) (number b))))
+    ∙ cond-false _ (Fails ZeroDivisor) (new_pair_of_numbers costs (quotient (number x) (number y)) (remainder (number x) (number y))) (ap is_zero (sym second) ∙ some)
+    ∙ ap₂ (λ a b. new_pair_of_numbers costs (quotient a b) (remainder a b)) (sym first) (sym second)
 
 -- two new nodes and their pair
 paired : (old t u new : List Tree) (a b : Tree) (first second pair : ℕ) → Adds old t first a → Adds t u second b → Adds u new pair (Pair (tree_at u first) (tree_at u second)) → tree_at new pair ≡ Pair a b

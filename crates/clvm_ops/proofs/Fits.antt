@@ -6,26 +6,29 @@ use Rattle.std.proofs.lemmas.Bool.{lt-ltb, le-ltb, cond-true, cond-false}
 use Rattle.std.proofs.lemmas.Int.{ints}
 use Rattle.std.specs.Int.{w128, int_shr, cast_unsigned}
 use Rattle.std.specs.Option.{SomeIff}
-use Rattle.clvm_spec.specs.Arithmetic.{fits_128, if_fits}
+use Rattle.clvm_spec.specs.Arithmetic.{fits_128, if_fits, shifted}
 
-pub fits : (n : ℤ) → FitsSigned w128 n → fits_128 n ≡ true
+fits : (n : ℤ) → FitsSigned w128 n → fits_128 n ≡ true
 fits (pos n) h = lt-ltb n (2 ^ 127) h.sfits
 fits (negsuc n) h = lt-ltb n (2 ^ 127) h.sfits
 
-pub unfit : (n : ℤ) → (FitsSigned w128 n → ⊥) → fits_128 n ≡ false
+unfit : (n : ℤ) → (FitsSigned w128 n → ⊥) → fits_128 n ≡ false
 unfit (pos n) h = le-ltb n (2 ^ 127) (omega (arith, λ (k : n < 2 ^ 127). h (record { sfits = k })))
 unfit (negsuc n) h = le-ltb n (2 ^ 127) (omega (arith, λ (k : n < 2 ^ 127). h (record { sfits = k })))
 
-pub held : (n : ℤ) → FitsSigned w128 n → if_fits n ≡ Some n
-held n h = cond-true _ _ _ (fits n h)
+pub is_held : (n : ℤ) → FitsSigned w128 n → if_fits n ≡ Some n
+is_held n h = cond-true _ _ _ (fits n h)
 
 not_held : (n : ℤ) → fits_128 n ≡ false → if_fits n ≡ None
 not_held n h = cond-false _ _ _ h
 
+pub too_wide : (n : ℤ) → ¬ FitsSigned w128 n → if_fits n ≡ None
+too_wide n h = not_held n (unfit n h)
+
 -- what the checked operations answer
 pub checked : (r : Option ℤ) (n : ℤ) → SomeIff r (FitsSigned w128 n) n → r ≡ if_fits n
-checked None n h = sym (not_held n (unfit n h))
-checked (Some x) n h = ap Some h.1 ∙ sym (held n h.0)
+checked None n h = sym (too_wide n h)
+checked (Some x) n h = ap Some h.1 ∙ sym (is_held n h.0)
 
 large : (by : ℕ) → 127 ≤ by → 2 ^ 127 ≤ 2 ^ by
 large by h = pow-le-pow_right (lit< tt) h
@@ -52,6 +55,12 @@ far_left n by h some lowest = sym (not_held (n *ℤ pos (2 ^ by)) (shifted_far n
 
 pub far_bits_left : (n by : ℕ) → 127 ≤ by → (n ≡ 0 → ⊥) → None ≡ if_fits (pos (n * 2 ^ by))
 far_bits_left n by h some = sym (not_held (pos (n * 2 ^ by)) (some_times_large n by h some))
+
+-- To the right is by a number below 0.
+pub to_right : (n : ℤ) (by : ℕ) → int_shr n by ≡ shifted n (neg_ℤ (pos by))
+to_right (pos n) zero = ap pos (omega arith)
+to_right (negsuc n) zero = omega (arith, ints)
+to_right n (suc by) = refl
 
 below_large : (n by : ℕ) → n < 2 ^ 127 → 128 ≤ by → n / 2 ^ by ≡ 0
 below_large n by h far = div-eq_of_lt (omega (arith, larger by far))

@@ -1,5 +1,6 @@
 pub mod Fits
 pub mod Rests
+pub mod KindLaws
 pub mod Answered
 pub mod NodeLists
 pub mod TreeLaws

@@ -2,10 +2,11 @@
 use Rattle.std.proofs.Common.{◌≡◌, ℕ, zero, suc, ◌-◌, ◌<◌, ◌≤◌, List, [], ◌∷◌, ◌++◌, length, get_or, take, refl, sym, ap, ◌∙◌, arith}
 use Rattle.std.proofs.Math.Seq.{take-suc, take-length}
 use Rattle.std.proofs.lemmas.List.{map-append, length-map}
-use Rattle.clvm_spec.specs.Tree.{Tree}
+use Rattle.clvm_spec.specs.Tree.{Tree, bytes_of}
 use Rattle.clvm_tree.specs.Nodes.{tree_at, IsKnown, AreKnown}
 use Rattle.clvm_tree.specs.Operators.{trees_at}
 use Rattle.clvm_tree.specs.declared.Node.{Node}
+use Rattle.clvm_ops.specs.OperandAtoms.{atoms_at}
 
 pub one_operand : (trees : List Tree) (nodes : List Node) (d : Node) → 1 ≤ length nodes → length nodes < 2 → trees_at trees nodes ≡ tree_at trees (get_or nodes 0 d).0 ∷ []
 one_operand trees [] d low high = absurd (omega arith)
@@ -27,6 +28,9 @@ three_operands trees (a ∷ b ∷ e ∷ f ∷ nodes) d low high = absurd (omega 
 
 pub length-trees_at : (trees : List Tree) (nodes : List Node) → length (trees_at trees nodes) ≡ length nodes
 length-trees_at trees nodes = length-map nodes (λ (node : Node). tree_at trees node.0)
+
+pub count_atoms : (trees : List Tree) (nodes : List Node) → length (atoms_at trees nodes) ≡ length nodes
+count_atoms trees nodes = length-map (trees_at trees nodes) bytes_of ∙ length-trees_at trees nodes
 
 pub known_at : (trees : List Tree) (nodes : List Node) (k : ℕ) (d : Node) → AreKnown trees nodes → k < length nodes → IsKnown trees (get_or nodes k d).0
 known_at trees [] k d known h = absurd (omega arith)

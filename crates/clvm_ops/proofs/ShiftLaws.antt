@@ -13,15 +13,15 @@ shift cost size n by = cond (is_shift by) (new_shifted cost size (shifted n by))
 
 shift_held : (cost size : ℕ) (n by : ℤ) (result : Option ℤ) → is_shift by ≡ true → result ≡ if_fits (shifted n by) → shift cost size n by ≡ or_wide result (new_shifted cost size)
 shift_held cost size n by result fair is =
-    cond-true _ (new_shifted cost size (shifted n by)) (Fails WrongShift) fair ∙ sym (asked_once (shifted n by) (λ n. written (cost + 3 * (size + length (shortest_atom n))) (shortest_atom n)))
+    cond-true _ (new_shifted cost size (shifted n by)) (Fails WrongShift) fair ∙ sym (asked_once (shifted n by) (λ m n. written (cost + 3 * (size + length (shortest_atom m))) (shortest_atom n)))
     ∙ ap (λ held. or_wide held (new_shifted cost size)) (sym is)
 
-pub shift_of_number_is : (operands : List Tree) (x y : List ℕ) (n by : ℤ) (result : Option ℤ) → ((go : List ℕ → List ℕ → Applied) → two_numbers operands go ≡ go x y) → n ≡ number x → by ≡ number y
-    → is_shift by ≡ true → result ≡ if_fits (shifted n by) → shift_of_number 596 operands ≡ or_wide result (new_shifted 596 (length x))
-shift_of_number_is operands x y n by result read first second fair is =
-    read (λ a by. shift 596 (length a) (number a) (number by)) ∙ ap₂ (shift 596 (length x)) (sym first) (sym second) ∙ shift_held 596 (length x) n by result fair is
+pub shift_of_number_is : (cost : ℕ) (operands : List Tree) (x y : List ℕ) (n by : ℤ) (result : Option ℤ) → ((go : List ℕ → List ℕ → Applied) → two_numbers operands go ≡ go x y) → n ≡ number x → by ≡ number y
+    → is_shift by ≡ true → result ≡ if_fits (shifted n by) → shift_of_number cost operands ≡ or_wide result (new_shifted cost (length x))
+shift_of_number_is cost operands x y n by result read first second fair is =
+    read (λ a by. shift cost (length a) (number a) (number by)) ∙ ap₂ (shift cost (length x)) (sym first) (sym second) ∙ shift_held cost (length x) n by result fair is
 
-pub shift_of_bits_is : (operands : List Tree) (x y : List ℕ) (n : ℕ) (by : ℤ) (result : Option ℤ) → ((go : List ℕ → List ℕ → Applied) → two_numbers operands go ≡ go x y) → n ≡ unsigned x → by ≡ number y
-    → is_shift by ≡ true → result ≡ if_fits (shifted (pos n) by) → shift_of_bits 277 operands ≡ or_wide result (new_shifted 277 (length x))
-shift_of_bits_is operands x y n by result read first second fair is =
-    read (λ a by. shift 277 (length a) (pos (unsigned a)) (number by)) ∙ ap₂ (λ k b. shift 277 (length x) (pos k) b) (sym first) (sym second) ∙ shift_held 277 (length x) (pos n) by result fair is
+pub shift_of_bits_is : (cost : ℕ) (operands : List Tree) (x y : List ℕ) (n : ℕ) (by : ℤ) (result : Option ℤ) → ((go : List ℕ → List ℕ → Applied) → two_numbers operands go ≡ go x y) → n ≡ unsigned x → by ≡ number y
+    → is_shift by ≡ true → result ≡ if_fits (shifted (pos n) by) → shift_of_bits cost operands ≡ or_wide result (new_shifted cost (length x))
+shift_of_bits_is cost operands x y n by result read first second fair is =
+    read (λ a by. shift cost (length a) (pos (unsigned a)) (number by)) ∙ ap₂ (λ k b. shift cost (length x) (pos k) b) (sym first) (sym second) ∙ shift_held cost (length x) (pos n) by result fair is

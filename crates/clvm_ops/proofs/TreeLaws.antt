@@ -10,20 +10,20 @@ use Rattle.clvm_tree.specs.declared.Node.{Node}
 use Rattle.clvm_tree.proofs.NodeLaws.{grows_same, grows_on, grows_length, stays}
 use Rattle.clvm_ops.proofs.NodeLists.{length-trees_at, known_at, known_front, trees_split_last}
 
-pub choice_is : (trees : List Tree) (a b c : Tree) (test : Bool) → trees ≡ a ∷ b ∷ c ∷ [] → test ≡ is_nil a → choice 33 trees ≡ free (cond test c b) 33
-choice_is trees a b c test list e = ap (choice 33) list ∙ ap (λ t. free (cond t c b) 33) (sym e)
+pub choice_is : (cost : ℕ) (trees : List Tree) (a b c : Tree) (test : Bool) → trees ≡ a ∷ b ∷ c ∷ [] → test ≡ is_nil a → choice cost trees ≡ free (cond test c b) cost
+choice_is cost trees a b c test list e = ap (choice cost) list ∙ ap (λ t. free (cond t c b) cost) (sym e)
 
-pub pair_flag_is : (trees : List Tree) (a : Tree) (pair : Bool) → trees ≡ a ∷ [] → pair ≡ is_pair a → pair_flag 19 trees ≡ free (flag pair) 19
-pair_flag_is trees a pair list e = ap (pair_flag 19) list ∙ ap (λ p. free (flag p) 19) (sym e)
+pub pair_flag_is : (cost : ℕ) (trees : List Tree) (a : Tree) (pair : Bool) → trees ≡ a ∷ [] → pair ≡ is_pair a → pair_flag cost trees ≡ free (flag pair) cost
+pair_flag_is cost trees a pair list e = ap (pair_flag cost) list ∙ ap (λ p. free (flag p) cost) (sym e)
 
-pub nil_flag_is : (trees : List Tree) (a : Tree) (empty : Bool) → trees ≡ a ∷ [] → empty ≡ is_nil a → nil_flag 200 trees ≡ free (flag empty) 200
-nil_flag_is trees a empty list e = ap (nil_flag 200) list ∙ ap (λ p. free (flag p) 200) (sym e)
+pub nil_flag_is : (cost : ℕ) (trees : List Tree) (a : Tree) (empty : Bool) → trees ≡ a ∷ [] → empty ≡ is_nil a → nil_flag cost trees ≡ free (flag empty) cost
+nil_flag_is cost trees a empty list e = ap (nil_flag cost) list ∙ ap (λ p. free (flag p) cost) (sym e)
 
-pub any_flag_is : (trees : List Tree) (operands : List Node) (holds : Bool) → holds ≡ list_any is_true (trees_at trees operands) → any_flag 200 (trees_at trees operands) ≡ free (flag holds) (200 + 300 * length operands)
-any_flag_is trees operands holds e = ap₂ (λ b n. free (flag b) (200 + 300 * n)) (sym e) (length-trees_at trees operands)
+pub any_flag_is : (cost : ℕ) (trees : List Tree) (operands : List Node) (holds : Bool) → holds ≡ list_any is_true (trees_at trees operands) → any_flag cost (trees_at trees operands) ≡ free (flag holds) (cost + 300 * length operands)
+any_flag_is cost trees operands holds e = ap₂ (λ b n. free (flag b) (cost + 300 * n)) (sym e) (length-trees_at trees operands)
 
-pub all_flag_is : (trees : List Tree) (operands : List Node) (holds : Bool) → holds ≡ list_all is_true (trees_at trees operands) → all_flag 200 (trees_at trees operands) ≡ free (flag holds) (200 + 300 * length operands)
-all_flag_is trees operands holds e = ap₂ (λ b n. free (flag b) (200 + 300 * n)) (sym e) (length-trees_at trees operands)
+pub all_flag_is : (cost : ℕ) (trees : List Tree) (operands : List Node) (holds : Bool) → holds ≡ list_all is_true (trees_at trees operands) → all_flag cost (trees_at trees operands) ≡ free (flag holds) (cost + 300 * length operands)
+all_flag_is cost trees operands holds e = ap₂ (λ b n. free (flag b) (cost + 300 * n)) (sym e) (length-trees_at trees operands)
 
 -- the list of these trees, ended by this one
 abbrev pub list_with : List Tree → Tree → Tree

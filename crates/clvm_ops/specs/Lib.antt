@@ -1,3 +1,4 @@
 pub mod Answering
 pub mod OperandAtoms
 pub mod Folds
+pub mod KindFaults

@@ -1,8 +1,9 @@
 //! Whole numbers of 128 bits: what a division leaves, and shifts.
 
-ghost use Rattle.std.specs.Prelude.{◌≡◌, ◌*◌, ◌/◌, ◌^◌, ◌<◌, pos, ◌+ℤ◌, ◌*ℤ◌, ◌<ℤ◌, ◌≤ℤ◌, true, false, if◌then◌else◌};
-ghost use Rattle.std.specs.Int.{int_shr};
+ghost use Rattle.std.specs.Prelude.{◌≡◌, ◌<◌, pos, neg_ℤ, ◌+ℤ◌, ◌<ℤ◌, ◌≤ℤ◌, true, false, if◌then◌else◌};
 ghost use Rattle.clvm_spec.specs.Arithmetic.{if_fits, is_zero, remainder, is_shift, shifted};
+
+use clvm_spec::arithmetic::is_zero;
 
 /// What the quotient rounded down leaves; it has the sign of the divisor, which isn't 0.
 pub fn remainder_of(number: i128, divisor: i128) -> i128
@@ -25,12 +26,12 @@ fn lowered_unless_whole(rest: i128, divisor: i128) -> i128
     requires divisor { divisor <ℤ pos 0 }
     ensures { result ≡ if is_zero rest then rest else (rest +ℤ divisor) }
 {
-    if rest == 0 { rest } else { rest + divisor }
+    if is_zero(rest) { rest } else { rest + divisor }
 }
 
 // The number times 2 to that power, None exactly where 128 bits don't hold it.
 fn shifted_left(number: i128, by: u32) -> Option<i128>
-    ensures { result ≡ if_fits (number *ℤ pos (2 ^ by)) }
+    ensures { result ≡ if_fits (shifted number (pos by)) }
 {
     if by < 127 {
         return number.checked_mul(1 << by);
@@ -46,7 +47,7 @@ fn shifted_left(number: i128, by: u32) -> Option<i128>
 
 // The number divided by 2 to that power, rounded down.
 fn shifted_right(number: i128, by: u32) -> i128
-    ensures { result ≡ int_shr number by }
+    ensures { result ≡ shifted number (neg_ℤ (pos by)) }
 {
     if by < 128 {
         number >> by
@@ -59,7 +60,7 @@ fn shifted_right(number: i128, by: u32) -> i128
 
 // The same of a number without sign, None exactly where 128 bits with a sign don't hold it.
 fn bits_shifted_left(bits: u128, by: u32) -> Option<i128>
-    ensures { result ≡ if_fits (pos (bits * 2 ^ by)) }
+    ensures { result ≡ if_fits (shifted (pos bits) (pos by)) }
 {
     if bits == 0 {
         return Some(0);
@@ -84,7 +85,7 @@ fn signed(bits: u128) -> Option<i128>
 // The number without sign divided by 2 to that power, which isn't the lowest, rounded down.
 fn bits_shifted_right(bits: u128, by: u32) -> i128
     requires { 0 < by }
-    ensures { result ≡ pos (bits / 2 ^ by) }
+    ensures { result ≡ shifted (pos bits) (neg_ℤ (pos by)) }
 {
     if by < 128 { (bits >> by) as i128 } else { 0 }
 }

@@ -1,10 +1,9 @@
 //! The table of operators.
 
-ghost use Rattle.std.specs.Prelude.{◌≡◌, ◌≢◌, ◌+◌, ◌<◌, ◌^◌, List, [], ◌∷◌, length, IfSome, IfNone};
+ghost use Rattle.std.specs.Prelude.{◌≡◌, ◌+◌, ◌<◌, ◌^◌, List, [], ◌∷◌, length, None, IfSome, IfNone};
 ghost use Rattle.clvm_spec.specs.declared.fuel.Fuel.{Fuel};
 ghost use Rattle.clvm_spec.specs.Tree.{Tree, Atom};
-ghost use Rattle.clvm_spec.specs.Outcomes.{Fails, NoOperator, Enough};
-ghost use Rattle.clvm_spec.specs.OperatorTable.{applied};
+ghost use Rattle.clvm_spec.specs.OperatorTable.{operator_at, applied_by, applied, within};
 ghost use Rattle.clvm_tree.specs.Nodes.{tree_at, IsKnown, AreKnown};
 ghost use Rattle.clvm_tree.specs.Operators.{trees_at, outcome_by};
 ghost use Rattle.clvm_ops.specs.Answering.{Answers};
@@ -48,7 +47,7 @@ fn code_of(trees: &Trees, code: Node) -> Option<u8>
     requires { IsKnown trees.now code.0 }
     ensures some { IfSome result (λ byte. tree_at trees.now code.0 ≡ Atom (byte ∷ [])) }
     ensures none { IfNone result ((operands : List Tree) (left : Fuel) →
-        outcome_by (tree_at trees.now code.0) operands left ≡ Enough (Fails NoOperator)) }
+        outcome_by (tree_at trees.now code.0) operands left ≡ within left (applied_by None operands)) }
 {
     match trees.look(code) {
         Sight::Bytes(bytes) => one_byte(bytes),
@@ -58,7 +57,7 @@ fn code_of(trees: &Trees, code: Node) -> Option<u8>
 
 fn one_byte(bytes: &[u8]) -> Option<u8>
     ensures some { IfSome result (λ byte. bytes.now ≡ byte ∷ []) }
-    ensures none { IfNone result (length bytes.now ≢ 1) }
+    ensures none { IfNone result (operator_at bytes.now ≡ None) }
 {
     match bytes {
         [byte] => Some(*byte),
@@ -79,14 +78,14 @@ fn apply_code(
     ensures { Answers trees.old trees.new (length operands.now) left (applied (code ∷ []) (trees_at trees.old operands.now)) result }
 {
     macro_rules! arm {
-        ($code:literal, $name:literal, quote) => {
+        ($code:literal, $name:literal, $cost:literal, quote) => {
             Err(OpFault::NoOperator)
         };
-        ($code:literal, $name:literal, apply) => {
+        ($code:literal, $name:literal, $cost:literal, apply) => {
             Err(OpFault::NoOperator)
         };
-        ($code:literal, $name:literal, $operator:ident) => {
-            $operator(alloc, trees, operands, left)
+        ($code:literal, $name:literal, $cost:literal, $operator:ident) => {
+            $operator(alloc, trees, operands, $cost, left)
         };
     }
     by_operator!(code, arm, Err(OpFault::NoOperator))

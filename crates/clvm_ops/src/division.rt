@@ -20,16 +20,17 @@ pub(crate) fn quotient_and_remainder(
     alloc: Global,
     trees: &mut Trees,
     operands: &[Node],
+    cost: u32,
     left: Fuel,
 ) -> Result<Answer, OpFault>
     requires known { AreKnown trees.old operands.now }
     requires fits { length trees.old + length operands.now + left.pairs + left.bytes < 2 ^ 31 }
-    ensures { Answers trees.old trees.new (length operands.now) left (quotient_and_remainder 1116 (trees_at trees.old operands.now)) result }
+    ensures { Answers trees.old trees.new (length operands.now) left (quotient_and_remainder cost (trees_at trees.old operands.now)) result }
 {
     let (first, second) = two_numbers(trees, operands)?;
-    let cost = 1116 + 6 * (first.len() + second.len()) as u128;
+    let cost = cost as u64 + 6 * (first.len() + second.len()) as u64;
     let divisor = number(second);
-    if divisor == 0 {
+    if arithmetic::is_zero(divisor) {
         return Err(OpFault::ZeroDivisor);
     }
     let number = number(first);
@@ -42,11 +43,10 @@ fn give_division(
     trees: &mut Trees,
     number: i128,
     divisor: i128,
-    cost: u128,
+    cost: u64,
     left: Fuel,
 ) -> Result<Answer, OpFault>
     requires divisor { is_zero divisor ≡ false }
-    requires cost { cost < 2 ^ 127 }
     requires fits { length trees.old + left.pairs + left.bytes < 2 ^ 31 }
     ensures { (operands : ℕ) → Answers trees.old trees.new operands left
         (new_pair_of_numbers cost (quotient number divisor) (remainder number divisor)) result }
@@ -66,16 +66,15 @@ fn give_two(
     trees: &mut Trees,
     first: i128,
     second: i128,
-    cost: u128,
+    cost: u64,
     left: Fuel,
 ) -> Result<Answer, OpFault>
-    requires cost { cost < 2 ^ 127 }
     requires fits { length trees.old + left.pairs + left.bytes < 2 ^ 31 }
     ensures { (operands : ℕ) → Answers trees.old trees.new operands left
         (written_pair cost (shortest_atom first) (shortest_atom second)) result }
 {
     let size = (number_length(first) + number_length(second)) as u128;
-    let charge = charged(left, cost + 10 * size, 1, size + 16)?;
+    let charge = charged(left, cost as u128 + 10 * size, 1, size + 16)?;
     let pair = pair_of_two(alloc, trees, first, second)?;
     Ok(charge.answer(pair))
 }

@@ -1,14 +1,13 @@
 //! What is calculated of any count of numbers from the left.
 
-ghost use Rattle.std.specs.Prelude.{◌≡◌, ℕ, ◌+◌, ◌*◌, ◌<◌, ◌≤◌, ◌^◌, ℤ, ◌+ℤ◌, ◌-ℤ◌, ◌*ℤ◌, true, List, length, fold, IfSome};
-ghost use Rattle.std.specs.List.{All};
+ghost use Rattle.std.specs.Prelude.{◌≡◌, ℕ, ◌+◌, ◌<◌, ◌≤◌, ◌^◌, ℤ, ◌+ℤ◌, ◌-ℤ◌, ◌*ℤ◌, true, length};
 ghost use Rattle.clvm_spec.specs.Tree.{bytes_of};
 ghost use Rattle.clvm_spec.specs.Numbers.{number, shortest_atom, is_short};
 ghost use Rattle.clvm_spec.specs.Outcomes.{Applied};
-ghost use Rattle.clvm_spec.specs.Operators.{numbers, lengths, or_wide, new_number, from_left, factor_cost, factors_cost, difference_of, product_of};
+ghost use Rattle.clvm_spec.specs.Operators.{or_wide, new_number, from_left, factor_cost, factors_cost, terms_cost, joined, difference_of, product_of};
 ghost use Rattle.clvm_tree.specs.Nodes.{tree_at, IsKnown, AreKnown};
 ghost use Rattle.clvm_tree.specs.Operators.{trees_at};
-ghost use Rattle.clvm_ops.specs.OperandAtoms.{atoms_at};
+ghost use Rattle.clvm_ops.specs.OperandAtoms.{atoms_at, AreNumbers, AreShort};
 ghost use Rattle.clvm_ops.specs.Folds.{numbers_at, bitwise_of};
 
 use crate::operands::bytes_of;
@@ -18,7 +17,7 @@ use clvm_tree::{Node, Trees, number};
 // The number of an operand that was read as one.
 fn number_of(trees: &Trees, operand: Node) -> i128
     requires known { IsKnown trees.now operand.0 }
-    requires short { length (bytes_of (tree_at trees.now operand.0)) ≤ 16 }
+    requires short { is_short (bytes_of (tree_at trees.now operand.0)) ≡ true }
     ensures { result ≡ number (bytes_of (tree_at trees.now operand.0)) }
 {
     number(bytes_of(trees, operand))
@@ -27,7 +26,7 @@ fn number_of(trees: &Trees, operand: Node) -> i128
 /// The number and the others in a sum, None where 128 bits don't hold it or a partial sum.
 pub(crate) fn plus_others(trees: &Trees, first: i128, others: &[Node]) -> Option<i128>
     requires known { AreKnown trees.now others.now }
-    requires short { All (λ bytes. is_short bytes ≡ true) (atoms_at trees.now others.now) }
+    requires short { AreShort trees.now others.now }
     ensures { (go : ℤ → Applied) → from_left ◌+ℤ◌ first (numbers_at trees.now others.now) go ≡ or_wide result go }
 {
     let mut sum = first;
@@ -40,10 +39,10 @@ pub(crate) fn plus_others(trees: &Trees, first: i128, others: &[Node]) -> Option
 /// The first less the others, 0 for none; None where 128 bits don't hold it or a partial difference.
 pub(crate) fn difference(trees: &Trees, operands: &[Node]) -> Option<i128>
     requires known { AreKnown trees.now operands.now }
-    requires short { All (λ bytes. is_short bytes ≡ true) (atoms_at trees.now operands.now) }
-    requires read { (go : List (List ℕ) → Applied) → numbers (trees_at trees.now operands.now) go ≡ go (atoms_at trees.now operands.now) }
+    requires short { AreShort trees.now operands.now }
+    requires read { AreNumbers trees.now operands.now }
     ensures { (cost : ℕ) → difference_of cost (trees_at trees.now operands.now)
-        ≡ or_wide result (new_number (cost + 320 * length operands.now + 3 * lengths (atoms_at trees.now operands.now))) }
+        ≡ or_wide result (new_number (cost + terms_cost (atoms_at trees.now operands.now))) }
 {
     match operands {
         [] => Some(0),
@@ -54,7 +53,7 @@ pub(crate) fn difference(trees: &Trees, operands: &[Node]) -> Option<i128>
 // The number less the others, None where 128 bits don't hold it or a partial difference.
 fn less_others(trees: &Trees, first: i128, others: &[Node]) -> Option<i128>
     requires known { AreKnown trees.now others.now }
-    requires short { All (λ bytes. is_short bytes ≡ true) (atoms_at trees.now others.now) }
+    requires short { AreShort trees.now others.now }
     ensures { (go : ℤ → Applied) → from_left ◌-ℤ◌ first (numbers_at trees.now others.now) go ≡ or_wide result go }
 {
     let mut difference = first;
@@ -68,7 +67,7 @@ fn less_others(trees: &Trees, first: i128, others: &[Node]) -> Option<i128>
 #[derive(Clone, Copy, Debug)]
 pub(crate) struct Product {
     pub(crate) number: i128,
-    pub(crate) cost: u128,
+    pub(crate) cost: u64,
 }
 
 /// How bits are joined.
@@ -105,8 +104,8 @@ impl BitStep {
     /// The bits of all operands, joined.
     pub(crate) fn of_all(self, trees: &Trees, operands: &[Node]) -> i128
         requires known { AreKnown trees.now operands.now }
-        requires short { All (λ bytes. is_short bytes ≡ true) (atoms_at trees.now operands.now) }
-        ensures { result ≡ fold (bitwise_of self).step (bitwise_of self).none (numbers_at trees.now operands.now) }
+        requires short { AreShort trees.now operands.now }
+        ensures { result ≡ joined (bitwise_of self) (numbers_at trees.now operands.now) }
     {
         let mut bits = self.none();
         for operand in operands {
@@ -117,29 +116,34 @@ impl BitStep {
 }
 
 // What a factor costs, beside a product of that size.
-fn factor_cost(size: usize, other: usize) -> u128
+fn factor_cost(size: usize, other: usize) -> u64
     requires size { size ≤ 16 }
     requires other { other ≤ 16 }
     ensures cost { result ≡ factor_cost size other }
     ensures few { result ≤ 2000 }
 {
-    (885 + 6 * (size + other) + size * other / 128) as u128
+    (885 + 6 * (size + other) + size * other / 128) as u64
 }
 
 // The number times the others, None where 128 bits don't hold it or a partial product. Each factor costs by its length and
 // that of the product so far.
-fn times_others(trees: &Trees, first: i128, size: usize, others: &[Node]) -> Option<Product>
+fn times_others(
+    trees: &Trees,
+    first: i128,
+    size: usize,
+    others: &[Node],
+    cost: u32,
+) -> Option<Product>
     requires size { size ≤ 16 }
     requires few { length others.now < 2 ^ 31 }
     requires known { AreKnown trees.now others.now }
-    requires short { All (λ bytes. is_short bytes ≡ true) (atoms_at trees.now others.now) }
-    ensures product { from_left ◌*ℤ◌ first (numbers_at trees.now others.now) (new_number (92 + factors_cost size first (atoms_at trees.now others.now)))
+    requires short { AreShort trees.now others.now }
+    ensures { from_left ◌*ℤ◌ first (numbers_at trees.now others.now) (new_number (cost + factors_cost size first (atoms_at trees.now others.now)))
         ≡ or_wide result (λ product. new_number product.cost product.number) }
-    ensures cost { IfSome result (λ product. product.cost < 2 ^ 100) }
 {
     let mut number = first;
     let mut size = size;
-    let mut cost = 92;
+    let mut cost = cost as u64;
     for other in others {
         cost += factor_cost(size, bytes_of(trees, *other).len());
         number = number.checked_mul(number_of(trees, *other))?;
@@ -149,22 +153,21 @@ fn times_others(trees: &Trees, first: i128, size: usize, others: &[Node]) -> Opt
 }
 
 /// The product, 1 for none, and its cost; None where 128 bits don't hold it or a partial product.
-pub(crate) fn whole_product(trees: &Trees, operands: &[Node]) -> Option<Product>
+pub(crate) fn whole_product(trees: &Trees, operands: &[Node], cost: u32) -> Option<Product>
     requires few { length operands.now < 2 ^ 31 }
     requires known { AreKnown trees.now operands.now }
-    requires short { All (λ bytes. is_short bytes ≡ true) (atoms_at trees.now operands.now) }
-    requires read { (go : List (List ℕ) → Applied) → numbers (trees_at trees.now operands.now) go ≡ go (atoms_at trees.now operands.now) }
-    ensures product { product_of 92 (trees_at trees.now operands.now) ≡ or_wide result (λ product. new_number product.cost product.number) }
-    ensures cost { IfSome result (λ product. product.cost < 2 ^ 100) }
+    requires short { AreShort trees.now operands.now }
+    requires read { AreNumbers trees.now operands.now }
+    ensures { product_of cost (trees_at trees.now operands.now) ≡ or_wide result (λ product. new_number product.cost product.number) }
 {
     match operands {
         [] => Some(Product {
             number: 1,
-            cost: 92,
+            cost: cost as u64,
         }),
         [first, others @ ..] => {
             let bytes = bytes_of(trees, *first);
-            times_others(trees, number(bytes), bytes.len(), others)
+            times_others(trees, number(bytes), bytes.len(), others, cost)
         }
     }
 }

@@ -3,7 +3,8 @@
 ghost use Rattle.std.specs.Prelude.{◌≡◌, ℕ, ◌+◌, ◌<◌, ◌≤◌, ◌^◌, List, length, IfOk, IfErr};
 ghost use Rattle.clvm_spec.specs.Tree.{Tree};
 ghost use Rattle.clvm_spec.specs.Operators.{free, flag, new_atom, or_wide, new_number};
-ghost use Rattle.clvm_spec.specs.OperatorTable.{within_cost};
+ghost use Rattle.clvm_spec.specs.Outcomes.{Gives};
+ghost use Rattle.clvm_spec.specs.OperatorTable.{within};
 ghost use Rattle.clvm_tree.specs.Nodes.{tree_at, IsKnown};
 ghost use Rattle.clvm_tree.specs.Operators.{IsOpFault};
 ghost use Rattle.clvm_ops.specs.Answering.{Answers, IsCharged};
@@ -37,7 +38,7 @@ impl Charge {
 pub(crate) fn charged(left: Fuel, cost: u128, pairs: u64, bytes: u128) -> Result<Charge, OpFault>
     ensures ok { IfOk result (IsCharged left cost pairs bytes) }
     ensures err { IfErr result (λ fault. (trees : List Tree) (value : Tree) →
-        IsOpFault trees (within_cost left value cost pairs bytes) fault) }
+        IsOpFault trees (within left (Gives value cost pairs bytes)) fault) }
 {
     if cost > left.cost as u128 {
         return Err(OpFault::Spent(Which::Cost));
@@ -100,11 +101,10 @@ pub(crate) fn give_number(
     alloc: Global,
     trees: &mut Trees,
     number: i128,
-    cost: u128,
+    cost: u64,
     left: Fuel,
 ) -> Result<Answer, OpFault>
-    requires fits { length trees.old + left.pairs + left.bytes < 2 ^ 31 }
-    requires cost { cost < 2 ^ 127 }
+    requires { length trees.old + left.pairs + left.bytes < 2 ^ 31 }
     ensures { (operands : ℕ) → Answers trees.old trees.new operands left (new_number cost number) result }
 {
     let size = number_length(number);
@@ -113,7 +113,7 @@ pub(crate) fn give_number(
         alloc,
         trees,
         &bytes[16 - size..],
-        cost + 10 * size as u128,
+        cost as u128 + 10 * size as u128,
         left,
     )
 }
@@ -123,11 +123,10 @@ pub(crate) fn give_if_held(
     alloc: Global,
     trees: &mut Trees,
     number: Option<i128>,
-    cost: u128,
+    cost: u64,
     left: Fuel,
 ) -> Result<Answer, OpFault>
-    requires fits { length trees.old + left.pairs + left.bytes < 2 ^ 31 }
-    requires cost { cost < 2 ^ 127 }
+    requires { length trees.old + left.pairs + left.bytes < 2 ^ 31 }
     ensures { (operands : ℕ) → Answers trees.old trees.new operands left (or_wide number (new_number cost)) result }
 {
     match number {

@@ -6,6 +6,7 @@ mod core_ops;
 mod division;
 mod folds;
 mod give;
+mod kinds;
 mod on_atoms;
 mod on_numbers;
 mod on_trees;
@@ -15,6 +16,7 @@ mod shifts;
 mod truth;
 
 pub use core_ops::CoreOps;
+pub use kinds::first_fault;
 
 #[cfg(test)]
 mod tests;

@@ -1,9 +1,8 @@
 //! Operators on the bytes of atoms.
 
-ghost use Rattle.std.specs.Prelude.{◌≡◌, ℕ, ◌+◌, ◌<◌, ◌^◌, pos, length, IfOk};
+ghost use Rattle.std.specs.Prelude.{◌≡◌, ◌+◌, ◌<◌, ◌^◌, length, IfOk};
 ghost use Rattle.std.specs.List.{concat};
-ghost use Rattle.sha2.specs.Sha256.{sha256};
-ghost use Rattle.clvm_spec.specs.Operators.{equal_flag, bytes_greater_flag, hash_of, length_of, concat_of, new_number};
+ghost use Rattle.clvm_spec.specs.Operators.{equal_flag, bytes_greater_flag, joined_hash, hash_of, length_of, concat_of};
 ghost use Rattle.clvm_tree.specs.Nodes.{AreKnown};
 ghost use Rattle.clvm_tree.specs.Operators.{trees_at};
 ghost use Rattle.clvm_ops.specs.Answering.{Answers};
@@ -19,67 +18,63 @@ pub(crate) fn equal_flag(
     _alloc: Global,
     trees: &Trees,
     operands: &[Node],
+    cost: u32,
     left: Fuel,
 ) -> Result<Answer, OpFault>
     requires { AreKnown trees.now operands.now }
-    ensures { Answers trees.now trees.now (length operands.now) left (equal_flag 117 (trees_at trees.now operands.now)) result }
+    ensures { Answers trees.now trees.now (length operands.now) left (equal_flag cost (trees_at trees.now operands.now)) result }
 {
     let (first, second) = two_atoms(trees, operands)?;
     let size = first.len() as u128 + second.len() as u128;
-    give_flag(trees, first == second, 117 + size, left)
+    give_flag(trees, first == second, cost as u128 + size, left)
 }
 
 pub(crate) fn bytes_greater_flag(
     _alloc: Global,
     trees: &Trees,
     operands: &[Node],
+    cost: u32,
     left: Fuel,
 ) -> Result<Answer, OpFault>
     requires { AreKnown trees.now operands.now }
-    ensures { Answers trees.now trees.now (length operands.now) left (bytes_greater_flag 117 (trees_at trees.now operands.now)) result }
+    ensures { Answers trees.now trees.now (length operands.now) left (bytes_greater_flag cost (trees_at trees.now operands.now)) result }
 {
     let (first, second) = two_atoms(trees, operands)?;
     let size = first.len() as u128 + second.len() as u128;
-    give_flag(trees, first > second, 117 + size, left)
+    give_flag(trees, first > second, cost as u128 + size, left)
 }
 
 pub(crate) fn length_of(
     alloc: Global,
     trees: &mut Trees,
     operands: &[Node],
+    cost: u32,
     left: Fuel,
 ) -> Result<Answer, OpFault>
     requires known { AreKnown trees.old operands.now }
     requires fits { length trees.old + length operands.now + left.pairs + left.bytes < 2 ^ 31 }
-    ensures { Answers trees.old trees.new (length operands.now) left (length_of 173 (trees_at trees.old operands.now)) result }
+    ensures { Answers trees.old trees.new (length operands.now) left (length_of cost (trees_at trees.old operands.now)) result }
 {
     let [atom] = operands else {
         return Err(OpFault::Count);
     };
     let size = atom_at(trees, 0, *atom)?.len();
-    give_length(alloc, trees, size, left)
-}
-
-// Answers the length of an atom, at the cost of `strlen`.
-fn give_length(alloc: Global, trees: &mut Trees, size: usize, left: Fuel) -> Result<Answer, OpFault>
-    requires { length trees.old + left.pairs + left.bytes < 2 ^ 31 }
-    ensures { (operands : ℕ) → Answers trees.old trees.new operands left (new_number (173 + size) (pos size)) result }
-{
-    give_number(alloc, trees, size as i128, 173 + size as u128, left)
+    give_number(alloc, trees, size as i128, cost as u64 + size as u64, left)
 }
 
 pub(crate) fn hash_of(
     alloc: Global,
     trees: &mut Trees,
     operands: &[Node],
+    cost: u32,
     left: Fuel,
 ) -> Result<Answer, OpFault>
     requires known { AreKnown trees.old operands.now }
     requires fits { length trees.old + length operands.now + left.pairs + left.bytes < 2 ^ 31 }
-    ensures { Answers trees.old trees.new (length operands.now) left (hash_of 407 (trees_at trees.old operands.now)) result }
+    ensures { Answers trees.old trees.new (length operands.now) left (hash_of cost (trees_at trees.old operands.now)) result }
 {
     let size = atoms(trees, operands)?;
-    let cost = 407 + 134 * operands.len() as u128 + 2 * size;
+    let cost = cost as u128 + 134 * operands.len() as u128 + 2 * size;
     let charge = charged(left, cost, 0, 32 + 8)?;
     let hash = hash_of_all(trees, operands);
     Ok(charge.answer(trees.atom(alloc, &hash)?))
@@ -88,7 +83,7 @@ pub(crate) fn hash_of(
 // The hash of the operands' bytes in a row.
 fn hash_of_all(trees: &Trees, operands: &[Node]) -> [u8; 32]
     requires { AreKnown trees.now operands.now }
-    ensures { result ≡ sha256 (concat (atoms_at trees.now operands.now)) }
+    ensures { result ≡ joined_hash (atoms_at trees.now operands.now) }
 {
     let mut hasher = Sha256::new();
     for operand in operands {
@@ -101,14 +96,15 @@ pub(crate) fn concat_of(
     alloc: Global,
     trees: &mut Trees,
     operands: &[Node],
+    cost: u32,
     left: Fuel,
 ) -> Result<Answer, OpFault>
     requires known { AreKnown trees.old operands.now }
     requires fits { length trees.old + length operands.now + left.pairs + left.bytes < 2 ^ 31 }
-    ensures { Answers trees.old trees.new (length operands.now) left (concat_of 142 (trees_at trees.old operands.now)) result }
+    ensures { Answers trees.old trees.new (length operands.now) left (concat_of cost (trees_at trees.old operands.now)) result }
 {
     let size = atoms(trees, operands)?;
-    let cost = 142 + 135 * operands.len() as u128 + 13 * size;
+    let cost = cost as u128 + 135 * operands.len() as u128 + 13 * size;
     let charge = charged(left, cost, 0, size + 8)?;
     let bytes = all_bytes(alloc, trees, operands)?;
     Ok(charge.answer(trees.atom(alloc, &bytes)?))

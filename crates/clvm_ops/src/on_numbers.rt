@@ -1,8 +1,9 @@
 //! Operators on numbers.
 
-ghost use Rattle.std.specs.Prelude.{◌≡◌, ◌+◌, ◌<◌, ◌≤◌, ◌^◌, negsuc, ◌-ℤ◌, int_lt, length};
-ghost use Rattle.clvm_spec.specs.Numbers.{number};
-ghost use Rattle.clvm_spec.specs.Operators.{sum_of, difference_of, product_of, quotient_of, greater_flag, complement_of, bits_of, and_of, or_of, xor_of};
+ghost use Rattle.std.specs.Prelude.{◌≡◌, ◌+◌, ◌<◌, ◌^◌, true, length};
+ghost use Rattle.clvm_spec.specs.Numbers.{number, is_short};
+ghost use Rattle.clvm_spec.specs.Arithmetic.{complement};
+ghost use Rattle.clvm_spec.specs.Operators.{sum_of, difference_of, product_of, quotient_of, is_greater, greater_flag, complement_of, bits_of, and_of, or_of, xor_of};
 ghost use Rattle.clvm_tree.specs.Nodes.{AreKnown};
 ghost use Rattle.clvm_tree.specs.Operators.{trees_at};
 ghost use Rattle.clvm_ops.specs.Answering.{Answers};
@@ -19,14 +20,15 @@ pub(crate) fn sum_of(
     alloc: Global,
     trees: &mut Trees,
     operands: &[Node],
+    cost: u32,
     left: Fuel,
 ) -> Result<Answer, OpFault>
     requires known { AreKnown trees.old operands.now }
     requires fits { length trees.old + length operands.now + left.pairs + left.bytes < 2 ^ 31 }
-    ensures { Answers trees.old trees.new (length operands.now) left (sum_of 99 (trees_at trees.old operands.now)) result }
+    ensures { Answers trees.old trees.new (length operands.now) left (sum_of cost (trees_at trees.old operands.now)) result }
 {
     let size = numbers(trees, operands)?;
-    let cost = 99 + 320 * operands.len() as u128 + 3 * size;
+    let cost = cost as u64 + 320 * operands.len() as u64 + 3 * size;
     let sum = plus_others(trees, 0, operands);
     give_if_held(alloc, trees, sum, cost, left)
 }
@@ -35,14 +37,15 @@ pub(crate) fn difference_of(
     alloc: Global,
     trees: &mut Trees,
     operands: &[Node],
+    cost: u32,
     left: Fuel,
 ) -> Result<Answer, OpFault>
     requires known { AreKnown trees.old operands.now }
     requires fits { length trees.old + length operands.now + left.pairs + left.bytes < 2 ^ 31 }
-    ensures { Answers trees.old trees.new (length operands.now) left (difference_of 99 (trees_at trees.old operands.now)) result }
+    ensures { Answers trees.old trees.new (length operands.now) left (difference_of cost (trees_at trees.old operands.now)) result }
 {
     let size = numbers(trees, operands)?;
-    let cost = 99 + 320 * operands.len() as u128 + 3 * size;
+    let cost = cost as u64 + 320 * operands.len() as u64 + 3 * size;
     let difference = difference(trees, operands);
     give_if_held(alloc, trees, difference, cost, left)
 }
@@ -51,14 +54,15 @@ pub(crate) fn product_of(
     alloc: Global,
     trees: &mut Trees,
     operands: &[Node],
+    cost: u32,
     left: Fuel,
 ) -> Result<Answer, OpFault>
     requires known { AreKnown trees.old operands.now }
     requires fits { length trees.old + length operands.now + left.pairs + left.bytes < 2 ^ 31 }
-    ensures { Answers trees.old trees.new (length operands.now) left (product_of 92 (trees_at trees.old operands.now)) result }
+    ensures { Answers trees.old trees.new (length operands.now) left (product_of cost (trees_at trees.old operands.now)) result }
 {
     numbers(trees, operands)?;
-    match whole_product(trees, operands) {
+    match whole_product(trees, operands, cost) {
         Some(product) => give_number(alloc, trees, product.number, product.cost, left),
         None => Err(OpFault::Wide),
     }
@@ -68,16 +72,17 @@ pub(crate) fn quotient_of(
     alloc: Global,
     trees: &mut Trees,
     operands: &[Node],
+    cost: u32,
     left: Fuel,
 ) -> Result<Answer, OpFault>
     requires known { AreKnown trees.old operands.now }
     requires fits { length trees.old + length operands.now + left.pairs + left.bytes < 2 ^ 31 }
-    ensures { Answers trees.old trees.new (length operands.now) left (quotient_of 988 (trees_at trees.old operands.now)) result }
+    ensures { Answers trees.old trees.new (length operands.now) left (quotient_of cost (trees_at trees.old operands.now)) result }
 {
     let (first, second) = two_numbers(trees, operands)?;
-    let cost = 988 + 4 * (first.len() + second.len()) as u128;
+    let cost = cost as u64 + 4 * (first.len() + second.len()) as u64;
     let divisor = number(second);
-    if divisor == 0 {
+    if arithmetic::is_zero(divisor) {
         return Err(OpFault::ZeroDivisor);
     }
     let quotient = arithmetic::quotient_of(number(first), divisor);
@@ -88,21 +93,22 @@ pub(crate) fn greater_flag(
     _alloc: Global,
     trees: &Trees,
     operands: &[Node],
+    cost: u32,
     left: Fuel,
 ) -> Result<Answer, OpFault>
     requires { AreKnown trees.now operands.now }
-    ensures { Answers trees.now trees.now (length operands.now) left (greater_flag 498 (trees_at trees.now operands.now)) result }
+    ensures { Answers trees.now trees.now (length operands.now) left (greater_flag cost (trees_at trees.now operands.now)) result }
 {
     let (first, second) = two_numbers(trees, operands)?;
-    let cost = 498 + 2 * (first.len() + second.len()) as u128;
+    let cost = cost as u128 + 2 * (first.len() + second.len()) as u128;
     give_flag(trees, is_greater(first, second), cost, left)
 }
 
 // Whether the first number is larger.
 fn is_greater(first: &[u8], second: &[u8]) -> bool
-    requires first { length first.now ≤ 16 }
-    requires second { length second.now ≤ 16 }
-    ensures { result ≡ int_lt (number second.now) (number first.now) }
+    requires first { is_short first.now ≡ true }
+    requires second { is_short second.now ≡ true }
+    ensures { result ≡ is_greater first.now second.now }
 {
     number(first) > number(second)
 }
@@ -111,25 +117,26 @@ pub(crate) fn complement_of(
     alloc: Global,
     trees: &mut Trees,
     operands: &[Node],
+    cost: u32,
     left: Fuel,
 ) -> Result<Answer, OpFault>
     requires known { AreKnown trees.old operands.now }
     requires fits { length trees.old + length operands.now + left.pairs + left.bytes < 2 ^ 31 }
-    ensures { Answers trees.old trees.new (length operands.now) left (complement_of 331 (trees_at trees.old operands.now)) result }
+    ensures { Answers trees.old trees.new (length operands.now) left (complement_of cost (trees_at trees.old operands.now)) result }
 {
     let [operand] = operands else {
         return Err(OpFault::Count);
     };
     let bytes = number_at(trees, 0, *operand)?;
-    let cost = 331 + 3 * bytes.len() as u128;
+    let cost = cost as u64 + 3 * bytes.len() as u64;
     let complement = complement(bytes);
     give_number(alloc, trees, complement, cost, left)
 }
 
 // -1 less the number.
 fn complement(bytes: &[u8]) -> i128
-    requires { length bytes.now ≤ 16 }
-    ensures { result ≡ negsuc 0 -ℤ number bytes.now }
+    requires { is_short bytes.now ≡ true }
+    ensures { result ≡ complement (number bytes.now) }
 {
     -1 - number(bytes)
 }
@@ -138,39 +145,42 @@ pub(crate) fn and_of(
     alloc: Global,
     trees: &mut Trees,
     operands: &[Node],
+    cost: u32,
     left: Fuel,
 ) -> Result<Answer, OpFault>
     requires known { AreKnown trees.old operands.now }
     requires fits { length trees.old + length operands.now + left.pairs + left.bytes < 2 ^ 31 }
-    ensures { Answers trees.old trees.new (length operands.now) left (and_of 100 (trees_at trees.old operands.now)) result }
+    ensures { Answers trees.old trees.new (length operands.now) left (and_of cost (trees_at trees.old operands.now)) result }
 {
-    bits_of(alloc, trees, operands, BitStep::And, left)
+    bits_of(alloc, trees, operands, BitStep::And, cost, left)
 }
 
 pub(crate) fn or_of(
     alloc: Global,
     trees: &mut Trees,
     operands: &[Node],
+    cost: u32,
     left: Fuel,
 ) -> Result<Answer, OpFault>
     requires known { AreKnown trees.old operands.now }
     requires fits { length trees.old + length operands.now + left.pairs + left.bytes < 2 ^ 31 }
-    ensures { Answers trees.old trees.new (length operands.now) left (or_of 100 (trees_at trees.old operands.now)) result }
+    ensures { Answers trees.old trees.new (length operands.now) left (or_of cost (trees_at trees.old operands.now)) result }
 {
-    bits_of(alloc, trees, operands, BitStep::Or, left)
+    bits_of(alloc, trees, operands, BitStep::Or, cost, left)
 }
 
 pub(crate) fn xor_of(
     alloc: Global,
     trees: &mut Trees,
     operands: &[Node],
+    cost: u32,
     left: Fuel,
 ) -> Result<Answer, OpFault>
     requires known { AreKnown trees.old operands.now }
     requires fits { length trees.old + length operands.now + left.pairs + left.bytes < 2 ^ 31 }
-    ensures { Answers trees.old trees.new (length operands.now) left (xor_of 100 (trees_at trees.old operands.now)) result }
+    ensures { Answers trees.old trees.new (length operands.now) left (xor_of cost (trees_at trees.old operands.now)) result }
 {
-    bits_of(alloc, trees, operands, BitStep::Xor, left)
+    bits_of(alloc, trees, operands, BitStep::Xor, cost, left)
 }
 
 fn bits_of(
@@ -178,15 +188,16 @@ fn bits_of(
     trees: &mut Trees,
     operands: &[Node],
     step: BitStep,
+    cost: u32,
     left: Fuel,
 ) -> Result<Answer, OpFault>
     requires known { AreKnown trees.old operands.now }
     requires fits { length trees.old + length operands.now + left.pairs + left.bytes < 2 ^ 31 }
     ensures { Answers trees.old trees.new (length operands.now) left
-        (bits_of (bitwise_of step) 100 (trees_at trees.old operands.now)) result }
+        (bits_of (bitwise_of step) cost (trees_at trees.old operands.now)) result }
 {
     let size = numbers(trees, operands)?;
-    let cost = 100 + 264 * operands.len() as u128 + 3 * size;
+    let cost = cost as u64 + 264 * operands.len() as u64 + 3 * size;
     let bits = step.of_all(trees, operands);
     give_number(alloc, trees, bits, cost, left)
 }

@@ -23,18 +23,19 @@ pub(crate) fn choice(
     _alloc: Global,
     trees: &Trees,
     operands: &[Node],
+    cost: u32,
     left: Fuel,
 ) -> Result<Answer, OpFault>
     requires { AreKnown trees.now operands.now }
-    ensures { Answers trees.now trees.now (length operands.now) left (choice 33 (trees_at trees.now operands.now)) result }
+    ensures { Answers trees.now trees.now (length operands.now) left (choice cost (trees_at trees.now operands.now)) result }
 {
     let [test, yes, no] = operands else {
         return Err(OpFault::Count);
     };
     if is_nil(trees, *test) {
-        give(trees, *no, 33, left)
+        give(trees, *no, cost as u128, left)
     } else {
-        give(trees, *yes, 33, left)
+        give(trees, *yes, cost as u128, left)
     }
 }
 
@@ -42,16 +43,17 @@ pub(crate) fn new_pair(
     alloc: Global,
     trees: &mut Trees,
     operands: &[Node],
+    cost: u32,
     left: Fuel,
 ) -> Result<Answer, OpFault>
     requires known { AreKnown trees.old operands.now }
     requires fits { length trees.old + length operands.now + left.pairs + left.bytes < 2 ^ 31 }
-    ensures { Answers trees.old trees.new (length operands.now) left (new_pair 50 (trees_at trees.old operands.now)) result }
+    ensures { Answers trees.old trees.new (length operands.now) left (new_pair cost (trees_at trees.old operands.now)) result }
 {
     let [first, rest] = operands else {
         return Err(OpFault::Count);
     };
-    let charge = charged(left, 50, 1, 0)?;
+    let charge = charged(left, cost as u128, 1, 0)?;
     Ok(charge.answer(trees.pair(alloc, *first, *rest)?))
 }
 
@@ -59,16 +61,17 @@ pub(crate) fn first_of(
     _alloc: Global,
     trees: &Trees,
     operands: &[Node],
+    cost: u32,
     left: Fuel,
 ) -> Result<Answer, OpFault>
     requires { AreKnown trees.now operands.now }
-    ensures { Answers trees.now trees.now (length operands.now) left (first_of 30 (trees_at trees.now operands.now)) result }
+    ensures { Answers trees.now trees.now (length operands.now) left (first_of cost (trees_at trees.now operands.now)) result }
 {
     let [pair] = operands else {
         return Err(OpFault::Count);
     };
     match trees.look(*pair) {
-        Sight::Parts(first, _) => give(trees, first, 30, left),
+        Sight::Parts(first, _) => give(trees, first, cost as u128, left),
         Sight::Bytes(_) => Err(OpFault::Operand(0)),
     }
 }
@@ -77,16 +80,17 @@ pub(crate) fn rest_of(
     _alloc: Global,
     trees: &Trees,
     operands: &[Node],
+    cost: u32,
     left: Fuel,
 ) -> Result<Answer, OpFault>
     requires { AreKnown trees.now operands.now }
-    ensures { Answers trees.now trees.now (length operands.now) left (rest_of 30 (trees_at trees.now operands.now)) result }
+    ensures { Answers trees.now trees.now (length operands.now) left (rest_of cost (trees_at trees.now operands.now)) result }
 {
     let [pair] = operands else {
         return Err(OpFault::Count);
     };
     match trees.look(*pair) {
-        Sight::Parts(_, rest) => give(trees, rest, 30, left),
+        Sight::Parts(_, rest) => give(trees, rest, cost as u128, left),
         Sight::Bytes(_) => Err(OpFault::Operand(0)),
     }
 }
@@ -95,15 +99,16 @@ pub(crate) fn pair_flag(
     _alloc: Global,
     trees: &Trees,
     operands: &[Node],
+    cost: u32,
     left: Fuel,
 ) -> Result<Answer, OpFault>
     requires { AreKnown trees.now operands.now }
-    ensures { Answers trees.now trees.now (length operands.now) left (pair_flag 19 (trees_at trees.now operands.now)) result }
+    ensures { Answers trees.now trees.now (length operands.now) left (pair_flag cost (trees_at trees.now operands.now)) result }
 {
     let [operand] = operands else {
         return Err(OpFault::Count);
     };
-    give_flag(trees, is_pair(trees, *operand), 19, left)
+    give_flag(trees, is_pair(trees, *operand), cost as u128, left)
 }
 
 // Whether the node is a pair.
@@ -119,11 +124,12 @@ pub(crate) fn raised(
     alloc: Global,
     trees: &mut Trees,
     operands: &[Node],
+    _cost: u32,
     left: Fuel,
 ) -> Result<Answer, OpFault>
     requires known { AreKnown trees.old operands.now }
     requires fits { length trees.old + length operands.now + left.pairs + left.bytes < 2 ^ 31 }
-    ensures { Answers trees.old trees.new (length operands.now) left (raised 0 (trees_at trees.old operands.now)) result }
+    ensures { Answers trees.old trees.new (length operands.now) left (raised _cost (trees_at trees.old operands.now)) result }
 {
     let list = list_of(alloc, trees, operands)?;
     Err(OpFault::Raised(list))

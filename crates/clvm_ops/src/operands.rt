@@ -1,7 +1,8 @@
 //! How operands are read, from the first to the last.
 
-ghost use Rattle.std.specs.Prelude.{◌≡◌, ℕ, ◌<◌, ◌≤◌, ◌^◌, List, length, IfOk, IfErr};
+ghost use Rattle.std.specs.Prelude.{◌≡◌, ℕ, ◌<◌, ◌^◌, true, List, length, IfOk, IfErr};
 ghost use Rattle.clvm_spec.specs.Tree.{Atom, bytes_of};
+ghost use Rattle.clvm_spec.specs.Numbers.{is_short};
 ghost use Rattle.clvm_spec.specs.Outcomes.{Applied, Enough};
 ghost use Rattle.clvm_spec.specs.Operators.{atom_at, number_at, atoms, numbers, two_atoms, two_numbers};
 ghost use Rattle.clvm_tree.specs.Nodes.{tree_at, IsKnown, AreKnown};
@@ -34,19 +35,27 @@ pub(crate) fn atom_at(trees: &Trees, place: u32, operand: Node) -> Result<&[u8],
     }
 }
 
-/// The same where a number is needed, of which an atom has at most 16 bytes.
+/// The same where a number is needed.
 pub(crate) fn number_at(trees: &Trees, place: u32, operand: Node) -> Result<&[u8], OpFault>
     requires { IsKnown trees.now operand.0 }
     ensures ok { IfOk result (λ bytes. tree_at trees.now operand.0 ≡ Atom bytes.now) }
-    ensures short { IfOk result (λ bytes. length bytes.now ≤ 16) }
+    ensures short { IfOk result (λ bytes. is_short bytes.now ≡ true) }
     ensures err { IfErr result (λ fault. (go : List ℕ → Applied) →
         IsOpFault trees.now (Enough (number_at place (tree_at trees.now operand.0) go)) fault) }
 {
     let bytes = atom_at(trees, place, operand)?;
-    if bytes.len() > 16 {
-        return Err(OpFault::Wide);
+    if is_short(bytes) {
+        Ok(bytes)
+    } else {
+        Err(OpFault::Wide)
     }
-    Ok(bytes)
+}
+
+/// Whether an atom has at most the 16 bytes of a number.
+pub(crate) fn is_short(bytes: &[u8]) -> bool
+    ensures { result ≡ is_short bytes.now }
+{
+    bytes.len() <= 16
 }
 
 /// The bytes of two operands, where two atoms are needed.
@@ -76,8 +85,8 @@ pub(crate) fn two_numbers<'a>(
     requires { AreKnown trees.now operands.now }
     ensures ok { IfOk result (λ pair. (go : List ℕ → List ℕ → Applied) →
         two_numbers (trees_at trees.now operands.now) go ≡ go pair.0.now pair.1.now) }
-    ensures first_short { IfOk result (λ pair. length pair.0.now ≤ 16) }
-    ensures second_short { IfOk result (λ pair. length pair.1.now ≤ 16) }
+    ensures first_short { IfOk result (λ pair. is_short pair.0.now ≡ true) }
+    ensures second_short { IfOk result (λ pair. is_short pair.1.now ≡ true) }
     ensures err { IfErr result (λ fault. (go : List ℕ → List ℕ → Applied) →
         IsOpFault trees.now (Enough (two_numbers (trees_at trees.now operands.now) go)) fault) }
 {
@@ -105,7 +114,7 @@ pub(crate) fn atoms(trees: &Trees, operands: &[Node]) -> Result<u128, OpFault>
 }
 
 /// The same where numbers are needed.
-pub(crate) fn numbers(trees: &Trees, operands: &[Node]) -> Result<u128, OpFault>
+pub(crate) fn numbers(trees: &Trees, operands: &[Node]) -> Result<u64, OpFault>
     requires known { AreKnown trees.now operands.now }
     requires few { length operands.now < 2 ^ 31 }
     ensures ok { IfOk result (HaveNumbers trees.now operands.now) }
@@ -114,7 +123,7 @@ pub(crate) fn numbers(trees: &Trees, operands: &[Node]) -> Result<u128, OpFault>
 {
     let mut size = 0;
     for (place, operand) in operands.iter().enumerate() {
-        size += number_at(trees, place as u32, *operand)?.len() as u128;
+        size += number_at(trees, place as u32, *operand)?.len() as u64;
     }
     Ok(size)
 }

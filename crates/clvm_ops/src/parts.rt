@@ -17,15 +17,16 @@ pub(crate) fn part_of(
     alloc: Global,
     trees: &mut Trees,
     operands: &[Node],
+    cost: u32,
     left: Fuel,
 ) -> Result<Answer, OpFault>
     requires known { AreKnown trees.old operands.now }
     requires fits { length trees.old + length operands.now + left.pairs + left.bytes < 2 ^ 31 }
-    ensures { Answers trees.old trees.new (length operands.now) left (part_of 1 (trees_at trees.old operands.now)) result }
+    ensures { Answers trees.old trees.new (length operands.now) left (part_of cost (trees_at trees.old operands.now)) result }
 {
     match operands {
-        [atom, start] => part_from(alloc, trees, *atom, *start, left),
-        [atom, start, end] => part_between(alloc, trees, *atom, *start, *end, left),
+        [atom, start] => part_from(alloc, trees, *atom, *start, cost, left),
+        [atom, start, end] => part_between(alloc, trees, *atom, *start, *end, cost, left),
         _ => Err(OpFault::Count),
     }
 }
@@ -36,17 +37,18 @@ fn part_from(
     trees: &mut Trees,
     atom: Node,
     start: Node,
+    cost: u32,
     left: Fuel,
 ) -> Result<Answer, OpFault>
     requires atom_known { IsKnown trees.old atom.0 }
     requires start_known { IsKnown trees.old start.0 }
     requires fits { length trees.old + left.pairs + left.bytes < 2 ^ 31 }
     ensures { (operands : ℕ) → Answers trees.old trees.new operands left
-        (part_of 1 (tree_at trees.old atom.0 ∷ tree_at trees.old start.0 ∷ [])) result }
+        (part_of cost (tree_at trees.old atom.0 ∷ tree_at trees.old start.0 ∷ [])) result }
 {
     let size = atom_at(trees, 0, atom)?.len();
     let start = number(number_at(trees, 1, start)?);
-    give_part(alloc, trees, atom, start, size as i128, left)
+    give_part(alloc, trees, atom, start, size as i128, cost, left)
 }
 
 // The part of an atom from a start to an end.
@@ -56,6 +58,7 @@ fn part_between(
     atom: Node,
     start: Node,
     end: Node,
+    cost: u32,
     left: Fuel,
 ) -> Result<Answer, OpFault>
     requires atom_known { IsKnown trees.old atom.0 }
@@ -63,12 +66,12 @@ fn part_between(
     requires end_known { IsKnown trees.old end.0 }
     requires fits { length trees.old + left.pairs + left.bytes < 2 ^ 31 }
     ensures { (operands : ℕ) → Answers trees.old trees.new operands left
-        (part_of 1 (tree_at trees.old atom.0 ∷ tree_at trees.old start.0 ∷ tree_at trees.old end.0 ∷ [])) result }
+        (part_of cost (tree_at trees.old atom.0 ∷ tree_at trees.old start.0 ∷ tree_at trees.old end.0 ∷ [])) result }
 {
     atom_at(trees, 0, atom)?;
     let start = number(number_at(trees, 1, start)?);
     let end = number(number_at(trees, 2, end)?);
-    give_part(alloc, trees, atom, start, end, left)
+    give_part(alloc, trees, atom, start, end, cost, left)
 }
 
 // Answers a part of an atom, where the atom has it.
@@ -78,18 +81,19 @@ fn give_part(
     atom: Node,
     start: i128,
     end: i128,
+    cost: u32,
     left: Fuel,
 ) -> Result<Answer, OpFault>
     requires known { IsKnown trees.old atom.0 }
     requires fits { length trees.old + left.pairs + left.bytes < 2 ^ 31 }
     ensures { (operands : ℕ) → Answers trees.old trees.new operands left
-        (part_or_fault 1 (part (bytes_of (tree_at trees.old atom.0)) start end)) result }
+        (part_or_fault cost (part (bytes_of (tree_at trees.old atom.0)) start end)) result }
 {
     let bytes = bytes_of(trees, atom);
     let Some(bytes) = part_within(bytes, start, end) else {
         return Err(OpFault::Operand(1));
     };
-    let charge = charged(left, 1, 0, bytes.len() as u128 + 8)?;
+    let charge = charged(left, cost as u128, 0, bytes.len() as u128 + 8)?;
     let copy = Vec::from_slice(alloc, bytes)?;
     Ok(charge.answer(trees.atom(alloc, &copy)?))
 }

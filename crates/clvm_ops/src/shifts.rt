@@ -18,11 +18,12 @@ pub(crate) fn shift_of_number(
     alloc: Global,
     trees: &mut Trees,
     operands: &[Node],
+    cost: u32,
     left: Fuel,
 ) -> Result<Answer, OpFault>
     requires known { AreKnown trees.old operands.now }
     requires fits { length trees.old + length operands.now + left.pairs + left.bytes < 2 ^ 31 }
-    ensures { Answers trees.old trees.new (length operands.now) left (shift_of_number 596 (trees_at trees.old operands.now)) result }
+    ensures { Answers trees.old trees.new (length operands.now) left (shift_of_number cost (trees_at trees.old operands.now)) result }
 {
     let (value, by) = two_numbers(trees, operands)?;
     let size = value.len();
@@ -31,18 +32,19 @@ pub(crate) fn shift_of_number(
         return Err(OpFault::Shift);
     }
     let shifted = shifted(number(value), by);
-    give_shifted(alloc, trees, shifted, size, 596, left)
+    give_shifted(alloc, trees, shifted, size, cost, left)
 }
 
 pub(crate) fn shift_of_bits(
     alloc: Global,
     trees: &mut Trees,
     operands: &[Node],
+    cost: u32,
     left: Fuel,
 ) -> Result<Answer, OpFault>
     requires known { AreKnown trees.old operands.now }
     requires fits { length trees.old + length operands.now + left.pairs + left.bytes < 2 ^ 31 }
-    ensures { Answers trees.old trees.new (length operands.now) left (shift_of_bits 277 (trees_at trees.old operands.now)) result }
+    ensures { Answers trees.old trees.new (length operands.now) left (shift_of_bits cost (trees_at trees.old operands.now)) result }
 {
     let (value, by) = two_numbers(trees, operands)?;
     let size = value.len();
@@ -50,8 +52,8 @@ pub(crate) fn shift_of_bits(
     if !is_shift_amount(by) {
         return Err(OpFault::Shift);
     }
-    let shifted = bits_shifted(unsigned(value), by);
-    give_shifted(alloc, trees, shifted, size, 277, left)
+    let bits = bits_shifted(unsigned(value), by);
+    give_shifted(alloc, trees, bits, size, cost, left)
 }
 
 // Answers a shifted number where there is one. The value's size and its own cost 3 for each byte, whatever the shift's is.
@@ -60,17 +62,16 @@ fn give_shifted(
     trees: &mut Trees,
     number: Option<i128>,
     size: usize,
-    cost: u128,
+    cost: u32,
     left: Fuel,
 ) -> Result<Answer, OpFault>
     requires size { size ≤ 16 }
-    requires cost { cost < 2 ^ 100 }
     requires fits { length trees.old + left.pairs + left.bytes < 2 ^ 31 }
     ensures { (operands : ℕ) → Answers trees.old trees.new operands left (or_wide number (new_shifted cost size)) result }
 {
     match number {
         Some(number) => {
-            let cost = cost + 3 * (size + number_length(number)) as u128;
+            let cost = cost as u64 + 3 * (size + number_length(number)) as u64;
             give_number(alloc, trees, number, cost, left)
         }
         None => Err(OpFault::Wide),

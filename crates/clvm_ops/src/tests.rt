@@ -3,6 +3,7 @@ ghost use Rattle.clvm_tree.specs.Nodes.{IsKnown, AreKnown};
 
 mod arithmetic;
 mod cases;
+mod kinds;
 
 use crate::CoreOps;
 use cases::CASES;

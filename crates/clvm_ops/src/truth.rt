@@ -1,8 +1,7 @@
 //! Operators on whether trees are nil.
 
 ghost use Rattle.std.specs.Prelude.{◌≡◌, length};
-ghost use Rattle.std.specs.List.{list_any, list_all};
-ghost use Rattle.clvm_spec.specs.Operators.{is_true, nil_flag, any_flag, all_flag};
+ghost use Rattle.clvm_spec.specs.Operators.{is_true, is_one_true, are_all_true, nil_flag, any_flag, all_flag};
 ghost use Rattle.clvm_tree.specs.Nodes.{AreKnown};
 ghost use Rattle.clvm_tree.specs.Operators.{trees_at};
 ghost use Rattle.clvm_ops.specs.Answering.{Answers};
@@ -16,30 +15,32 @@ pub(crate) fn nil_flag(
     _alloc: Global,
     trees: &Trees,
     operands: &[Node],
+    cost: u32,
     left: Fuel,
 ) -> Result<Answer, OpFault>
     requires { AreKnown trees.now operands.now }
-    ensures { Answers trees.now trees.now (length operands.now) left (nil_flag 200 (trees_at trees.now operands.now)) result }
+    ensures { Answers trees.now trees.now (length operands.now) left (nil_flag cost (trees_at trees.now operands.now)) result }
 {
     let [operand] = operands else {
         return Err(OpFault::Count);
     };
-    give_flag(trees, is_nil(trees, *operand), 200, left)
+    give_flag(trees, is_nil(trees, *operand), cost as u128, left)
 }
 
 pub(crate) fn any_flag(
     _alloc: Global,
     trees: &Trees,
     operands: &[Node],
+    cost: u32,
     left: Fuel,
 ) -> Result<Answer, OpFault>
     requires { AreKnown trees.now operands.now }
-    ensures { Answers trees.now trees.now (length operands.now) left (any_flag 200 (trees_at trees.now operands.now)) result }
+    ensures { Answers trees.now trees.now (length operands.now) left (any_flag cost (trees_at trees.now operands.now)) result }
 {
     give_flag(
         trees,
         is_one_true(trees, operands),
-        200 + 300 * operands.len() as u128,
+        cost as u128 + 300 * operands.len() as u128,
         left,
     )
 }
@@ -48,15 +49,16 @@ pub(crate) fn all_flag(
     _alloc: Global,
     trees: &Trees,
     operands: &[Node],
+    cost: u32,
     left: Fuel,
 ) -> Result<Answer, OpFault>
     requires { AreKnown trees.now operands.now }
-    ensures { Answers trees.now trees.now (length operands.now) left (all_flag 200 (trees_at trees.now operands.now)) result }
+    ensures { Answers trees.now trees.now (length operands.now) left (all_flag cost (trees_at trees.now operands.now)) result }
 {
     give_flag(
         trees,
         are_all_true(trees, operands),
-        200 + 300 * operands.len() as u128,
+        cost as u128 + 300 * operands.len() as u128,
         left,
     )
 }
@@ -64,7 +66,7 @@ pub(crate) fn all_flag(
 // Whether one of them isn't nil.
 fn is_one_true(trees: &Trees, operands: &[Node]) -> bool
     requires { AreKnown trees.now operands.now }
-    ensures { result ≡ list_any is_true (trees_at trees.now operands.now) }
+    ensures { result ≡ is_one_true (trees_at trees.now operands.now) }
 {
     for operand in operands {
         if !is_nil(trees, *operand) {
@@ -77,7 +79,7 @@ fn is_one_true(trees: &Trees, operands: &[Node]) -> bool
 // Whether none of them is nil.
 fn are_all_true(trees: &Trees, operands: &[Node]) -> bool
     requires { AreKnown trees.now operands.now }
-    ensures { result ≡ list_all is_true (trees_at trees.now operands.now) }
+    ensures { result ≡ are_all_true (trees_at trees.now operands.now) }
 {
     for operand in operands {
         if is_nil(trees, *operand) {

@@ -4,10 +4,15 @@ use Rattle.std.proofs.lemmas.List.{append-nil, length-append}
 use Rattle.clvm_spec.specs.Tree.{Tree}
 use Rattle.clvm_spec.specs.Spelling.{spelling}
 use Rattle.clvm_tree.specs.Nodes.{tree_at, IsKnown, AreKnown, HasParts}
-use Rattle.clvm_tree.specs.Writes.{spellings, HasSpellingWithin, IsWriteFault}
+use Rattle.clvm_tree.specs.Writes.{HasSpellingWithin, IsWriteFault}
 use Rattle.clvm_tree.specs.declared.Node.{Node}
 use Rattle.clvm_tree.specs.declared.WriteFault.{WriteFault}
 use Rattle.clvm_tree.specs.declared.WriteFault.TheVariants.{TooLong, OutOfMemory}
+
+-- the spellings of pending nodes, the last of them first
+abbrev pub spellings : List Tree → List Node → List ℕ
+spellings trees [] = []
+spellings trees (node ∷ above) = spellings trees above ++ spelling (tree_at trees node.0)
 
 pub spellings-push : (trees : List Tree) (nodes : List Node) (node : Node) → spellings trees (nodes ++ node ∷ []) ≡ spelling (tree_at trees node.0) ++ spellings trees nodes
 spellings-push trees [] node = sym (append-nil (spelling (tree_at trees node.0)))

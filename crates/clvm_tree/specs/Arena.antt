@@ -1,7 +1,7 @@
--- The trees that the entries of an arena stand for. Nil and the atom 01 stand before the entries. This project's own.
+-- The trees that the entries of an arena stand for. This project's own.
 use Rattle.std.specs.Prelude.{ℕ, suc, ◌+◌, ◌^◌, ◌<◌, ◌≤◌, List, [], ◌∷◌, ◌++◌, length, slice_range}
-use Rattle.clvm_spec.specs.Tree.{Tree, Atom, Pair, nil}
-use Rattle.clvm_tree.specs.Nodes.{tree_at}
+use Rattle.clvm_spec.specs.Tree.{Tree, Atom, Pair}
+use Rattle.clvm_tree.specs.Nodes.{first_trees, tree_at}
 use Rattle.clvm_tree.specs.declared.arena.Entry.{Entry}
 use Rattle.clvm_tree.specs.declared.arena.Entry.TheVariants.{Bytes, Two}
 
@@ -16,7 +16,7 @@ built bytes trees [] = trees
 built bytes trees (entry ∷ entries) = built bytes (trees ++ entry_tree bytes trees entry ∷ []) entries
 
 abbrev pub trees_of : List ℕ → List Entry → List Tree
-trees_of bytes entries = built bytes (nil ∷ Atom (1 ∷ []) ∷ []) entries
+trees_of bytes entries = built bytes first_trees entries
 
 -- An entry at this place has earlier parts.
 abbrev pub HasEarlierParts : ℕ → Entry → Type 0

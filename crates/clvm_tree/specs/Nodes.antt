@@ -8,6 +8,10 @@ use Rattle.clvm_tree.specs.declared.Node.{Node}
 abbrev pub tree_at : List Tree → ℕ → Tree
 tree_at trees node = slice_index_or trees node nil
 
+-- Nil and the atom 01 stand before all others.
+abbrev pub first_trees : List Tree
+first_trees = nil ∷ Atom (1 ∷ []) ∷ []
+
 -- The node is one of these trees.
 abbrev pub IsKnown : List Tree → ℕ → Type 0
 IsKnown trees node = node < length trees

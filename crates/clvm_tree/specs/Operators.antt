@@ -1,11 +1,11 @@
 -- What a table of operators answers on nodes: by the definition of the operators, on the trees that the nodes stand for.
 -- This project's own.
-use Rattle.std.specs.Prelude.{◌≡◌, ℕ, ◌+◌, ◌≤◌, List, length, map}
+use Rattle.std.specs.Prelude.{◌≡◌, ℕ, ◌+◌, ◌≤◌, List, length, map, None}
 use Rattle.clvm_spec.specs.declared.fuel.Fuel.{Fuel}
 use Rattle.clvm_spec.specs.Tree.{Tree, Atom, Pair}
 use Rattle.clvm_spec.specs.Outcomes.{WrongCount, WrongOperand, ZeroDivisor, WrongShift, NoOperator, Gives, Fails, TooWide, WithinFuel, Enough, Lacks}
 use Rattle.clvm_spec.specs.Outcomes as outcomes
-use Rattle.clvm_spec.specs.OperatorTable.{operator_outcome}
+use Rattle.clvm_spec.specs.OperatorTable.{applied_by, within, operator_outcome}
 use Rattle.clvm_spec.specs.Spending.{Spending, Suffices}
 use Rattle.clvm_tree.specs.Nodes.{tree_at, IsKnown}
 use Rattle.clvm_tree.specs.declared.Node.{Node}
@@ -19,7 +19,7 @@ trees_at trees nodes = map (λ node. tree_at trees node.0) nodes
 -- The operator whose code is this tree, within what is left. A pair is no operator's code.
 abbrev pub outcome_by : Tree → List Tree → Fuel → WithinFuel
 outcome_by (Atom code) operands left = operator_outcome code operands left
-outcome_by (Pair first rest) operands left = Enough (Fails NoOperator)
+outcome_by (Pair first rest) operands left = within left (applied_by None operands)
 
 -- The answer is what the operator gives.
 pub record IsAnswer (trees : List Tree) (outcome : WithinFuel) (answer : Answer) : Type 0 where

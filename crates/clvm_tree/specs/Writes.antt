@@ -1,9 +1,7 @@
 -- What is to be written of nodes. This project's own.
-use Rattle.std.specs.Prelude.{ℕ, ◌≤◌, List, [], ◌∷◌, ◌++◌, length}
+use Rattle.std.specs.Prelude.{ℕ, ◌≤◌, length}
 use Rattle.clvm_spec.specs.Tree.{Tree}
 use Rattle.clvm_spec.specs.Spelling.{spelling, HasSpelling}
-use Rattle.clvm_tree.specs.Nodes.{tree_at}
-use Rattle.clvm_tree.specs.declared.Node.{Node}
 use Rattle.clvm_tree.specs.declared.WriteFault.{WriteFault}
 use Rattle.clvm_tree.specs.declared.WriteFault.TheVariants.{TooLong, OutOfMemory}
 
@@ -15,8 +13,3 @@ pub record HasSpellingWithin (most : ℕ) (tree : Tree) : Type 0 where
 abbrev pub IsWriteFault : ℕ → Tree → WriteFault → Type 0
 IsWriteFault most tree TooLong = HasSpellingWithin most tree → ⊥
 IsWriteFault most tree OutOfMemory = Unit {0}
-
--- the spellings of pending nodes, the last of them first
-abbrev pub spellings : List Tree → List Node → List ℕ
-spellings trees [] = []
-spellings trees (node ∷ above) = spellings trees above ++ spelling (tree_at trees node.0)

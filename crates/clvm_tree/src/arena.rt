@@ -1,6 +1,6 @@
 ghost use Rattle.std.specs.Prelude.{◌≡◌, ℕ, ◌+◌, ◌<◌, ◌^◌, [], ◌∷◌, length, IfOk, OnErr, MatchOption};
 ghost use Rattle.clvm_spec.specs.Tree.{Atom, Pair, nil};
-ghost use Rattle.clvm_tree.specs.Nodes.{tree_at, IsKnown, Grows, Adds, HasParts, IsAtom, IsPair};
+ghost use Rattle.clvm_tree.specs.Nodes.{first_trees, tree_at, IsKnown, Grows, Adds, HasParts, IsAtom, IsPair};
 ghost use Rattle.clvm_tree.specs.Sights.{Shows};
 
 use crate::{Node, OutOfMemory};
@@ -49,7 +49,7 @@ impl Model for Trees {
 impl Trees {
     /// Nil and the atom 01 alone.
     pub fn new(alloc: Global) -> Trees
-        ensures { result ≡ nil ∷ Atom (1 ∷ []) ∷ [] }
+        ensures { result ≡ first_trees }
     {
         Trees {
             entries: Vec::new(alloc),

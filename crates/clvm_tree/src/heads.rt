@@ -1,6 +1,6 @@
 ghost use Rattle.std.specs.Prelude.{◌≡◌, ◌+◌, ◌*◌, ◌-◌, ◌<◌};
-ghost use Rattle.clvm_spec.specs.Reading.{head_at, leaf, atom_behind, long_atom, behind_two, behind_three, behind_four};
-ghost use Rattle.clvm_tree.specs.Pieces.{front_of};
+ghost use Rattle.clvm_spec.specs.Reading.{head_at, leaf, atom_behind, long_atom, prefixed};
+ghost use Rattle.clvm_tree.specs.Pieces.{beginning_of};
 
 /// The head at the front of bytes and what follows it, or the flaw there.
 #[derive(Clone, Copy, Debug)]
@@ -14,7 +14,7 @@ pub(crate) enum Piece<'a> {
 
 // An atom behind its prefix, and what follows. One byte below 80 needs no prefix.
 fn atom<'a>(bytes: &'a [u8], rest: &'a [u8]) -> Piece<'a>
-    ensures { front_of result ≡ leaf bytes.now rest.now }
+    ensures { beginning_of result ≡ leaf bytes.now rest.now }
 {
     match bytes {
         [byte] if *byte < 0x80 => Piece::LongSpelling,
@@ -23,7 +23,7 @@ fn atom<'a>(bytes: &'a [u8], rest: &'a [u8]) -> Piece<'a>
 }
 
 fn sized(size: usize, bytes: &[u8]) -> Piece<'_>
-    ensures { front_of result ≡ atom_behind size bytes.now }
+    ensures { beginning_of result ≡ atom_behind size bytes.now }
 {
     if bytes.len() < size {
         return Piece::Cut;
@@ -33,7 +33,7 @@ fn sized(size: usize, bytes: &[u8]) -> Piece<'_>
 }
 
 fn long(least: usize, size: usize, bytes: &[u8]) -> Piece<'_>
-    ensures { front_of result ≡ long_atom least size bytes.now }
+    ensures { beginning_of result ≡ long_atom least size bytes.now }
 {
     if size < least {
         return Piece::LongSpelling;
@@ -41,21 +41,21 @@ fn long(least: usize, size: usize, bytes: &[u8]) -> Piece<'_>
     sized(size, bytes)
 }
 
-fn two(high: u8, bytes: &[u8]) -> Piece<'_>
-    ensures { front_of result ≡ behind_two high bytes.now }
+fn two(least: usize, high: u8, bytes: &[u8]) -> Piece<'_>
+    ensures { beginning_of result ≡ prefixed 1 least high bytes.now }
 {
     match bytes {
-        [b, rest @ ..] => long(0x40, high as usize * 256 + *b as usize, rest),
+        [b, rest @ ..] => long(least, high as usize * 256 + *b as usize, rest),
         _ => Piece::Cut,
     }
 }
 
-fn three(high: u8, bytes: &[u8]) -> Piece<'_>
-    ensures { front_of result ≡ behind_three high bytes.now }
+fn three(least: usize, high: u8, bytes: &[u8]) -> Piece<'_>
+    ensures { beginning_of result ≡ prefixed 2 least high bytes.now }
 {
     match bytes {
         [b, c, rest @ ..] => long(
-            0x2000,
+            least,
             (high as usize * 256 + *b as usize) * 256 + *c as usize,
             rest,
         ),
@@ -63,14 +63,14 @@ fn three(high: u8, bytes: &[u8]) -> Piece<'_>
     }
 }
 
-fn four(high: u8, bytes: &[u8]) -> Piece<'_>
-    ensures { front_of result ≡ behind_four high bytes.now }
+fn four(least: usize, high: u8, bytes: &[u8]) -> Piece<'_>
+    ensures { beginning_of result ≡ prefixed 3 least high bytes.now }
 {
     match bytes {
         [b, c, d, rest @ ..] => {
             let size = ((high as usize * 256 + *b as usize) * 256 + *c as usize) * 256
                 + *d as usize;
-            long(0x10_0000, size, rest)
+            long(least, size, rest)
         }
         _ => Piece::Cut,
     }
@@ -79,15 +79,15 @@ fn four(high: u8, bytes: &[u8]) -> Piece<'_>
 /// The head at the front.
 #[tactic(auto, unfolding(clvm_spec::specs::Reading::head_at))]
 pub(crate) fn head(bytes: &[u8]) -> Piece<'_>
-    ensures { front_of result ≡ head_at bytes.now }
+    ensures { beginning_of result ≡ head_at bytes.now }
 {
     match bytes {
         [b, rest @ ..] => match *b {
             0..=0x7f => Piece::Leaf(&bytes[..1], rest),
             0x80..=0xbf => sized((*b - 0x80) as usize, rest),
-            0xc0..=0xdf => two(*b - 0xc0, rest),
-            0xe0..=0xef => three(*b - 0xe0, rest),
-            0xf0..=0xf7 => four(*b - 0xf0, rest),
+            0xc0..=0xdf => two(0x40, *b - 0xc0, rest),
+            0xe0..=0xef => three(0x2000, *b - 0xe0, rest),
+            0xf0..=0xf7 => four(0x10_0000, *b - 0xf0, rest),
             0xff => Piece::Open(rest),
             _ => Piece::BadPrefix,
         },

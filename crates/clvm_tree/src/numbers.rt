@@ -1,6 +1,6 @@
-ghost use Rattle.std.specs.Prelude.{◌≡◌, ◌+◌, ◌-◌, ◌*◌, ◌<◌, ◌≤◌, ◌^◌, length, map, IfOk, OnErr};
+ghost use Rattle.std.specs.Prelude.{◌≡◌, ◌+◌, ◌-◌, ◌*◌, ◌<◌, ◌≤◌, ◌^◌, length, IfOk, OnErr};
 ghost use Rattle.clvm_spec.specs.Tree.{Atom};
-ghost use Rattle.clvm_spec.specs.Numbers.{unsigned, number, shortest_atom};
+ghost use Rattle.clvm_spec.specs.Numbers.{unsigned, complemented, number, shortest_atom};
 ghost use Rattle.clvm_tree.specs.Nodes.{tree_at, IsKnown, Adds};
 ghost use Rattle.clvm_tree.specs.Numbers.{short_number, number_in};
 
@@ -21,10 +21,10 @@ pub fn unsigned(bytes: &[u8]) -> u128
     value
 }
 
-// The same of the bytes turned round.
+// The same of the complemented bytes.
 fn unsigned_complement(bytes: &[u8]) -> u128
     requires { length bytes.now ≤ 16 }
-    ensures { result ≡ unsigned (map (λ b. 255 - b) bytes.now) }
+    ensures { result ≡ unsigned (complemented bytes.now) }
 {
     let mut value = 0u128;
     for byte in bytes {

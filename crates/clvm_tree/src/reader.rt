@@ -1,5 +1,6 @@
 ghost use Rattle.std.specs.Prelude.{◌≡◌, ◌≢◌, ◌+◌, ◌<◌, ◌≤◌, ◌^◌, length, None, IfOk, IfErr, OnOk, vec_len};
 ghost use Rattle.clvm_spec.specs.Reading.{tree_of};
+ghost use Rattle.clvm_spec.specs.Spelled.{most_spelled};
 ghost use Rattle.clvm_spec.specs.Spelling.{Spells};
 ghost use Rattle.clvm_tree.specs.Nodes.{tree_at, IsKnown, Grows};
 ghost use Rattle.clvm_tree.specs.declared.ReadFault.TheVariants as read_fault;
@@ -42,7 +43,7 @@ impl Trees {
     /// Reads the spelled tree at the front, and answers how many bytes it has. Earlier nodes stand, whatever the
     /// answer; without memory there may be further nodes.
     pub fn read(&mut self, alloc: Global, bytes: &[u8]) -> Result<(Node, usize), ReadFault>
-        requires short { length bytes.now ≤ 2 ^ 26 }
+        requires short { length bytes.now ≤ most_spelled }
         requires fits { length self.old + length bytes.now < 2 ^ 31 }
         ensures grows { Grows self.old self.new }
         ensures few { length self.new ≤ length self.old + length bytes.now }
@@ -75,7 +76,7 @@ impl Trees {
     /// Reads the tree that bytes spell, all of them. Earlier nodes stand, whatever the answer; without memory there
     /// may be further nodes.
     pub fn read_whole(&mut self, alloc: Global, bytes: &[u8]) -> Result<Node, ReadFault>
-        requires short { length bytes.now ≤ 2 ^ 26 }
+        requires short { length bytes.now ≤ most_spelled }
         requires fits { length self.old + length bytes.now < 2 ^ 31 }
         ensures grows { Grows self.old self.new }
         ensures few { length self.new ≤ length self.old + length bytes.now }

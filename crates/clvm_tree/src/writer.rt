@@ -1,5 +1,6 @@
 ghost use Rattle.std.specs.Prelude.{◌≡◌, ◌+◌, ◌<◌, ◌≤◌, ◌^◌, ◌++◌, length, IfOk, IfErr, OnOk, vec_len};
-ghost use Rattle.clvm_spec.specs.Spelling.{spelling, atom_spelling, prefix, HasSpelling};
+ghost use Rattle.clvm_spec.specs.Spelled.{most_spelled};
+ghost use Rattle.clvm_spec.specs.Spelling.{spelling, atom_spelling, prefix, IsPrefixed, HasSpelling};
 ghost use Rattle.clvm_tree.specs.Nodes.{tree_at, IsKnown};
 ghost use Rattle.clvm_tree.specs.Writes.{HasSpellingWithin, IsWriteFault};
 
@@ -8,7 +9,7 @@ use crate::{Node, OutOfMemory, WriteFault};
 use std::alloc::Global;
 
 fn push_prefix(out: &mut Vec<u8>, size: usize) -> Result<(), OutOfMemory>
-    requires { size < 2 ^ 27 }
+    requires { IsPrefixed size }
     ensures { OnOk result (out.new.items ≡ out.old.items ++ prefix size) }
 {
     let low = (size % 256) as u8;
@@ -38,7 +39,7 @@ fn prefix_len(size: usize) -> usize
 }
 
 fn push_atom(out: &mut Vec<u8>, bytes: &[u8], most: usize) -> Result<(), WriteFault>
-    requires most { most ≤ 2 ^ 26 }
+    requires most { most ≤ most_spelled }
     requires within { vec_len out.old ≤ most }
     ensures ok { OnOk result (out.new.items ≡ out.old.items ++ atom_spelling bytes.now) }
     ensures within { OnOk result (vec_len out.new ≤ most) }
@@ -60,7 +61,7 @@ impl Trees {
     /// The spelling of a tree, if it has one of at most `most` bytes.
     pub fn write(&self, alloc: Global, node: Node, most: usize) -> Result<Vec<u8>, WriteFault>
         requires known { IsKnown self.now node.0 }
-        requires most { most ≤ 2 ^ 26 }
+        requires most { most ≤ most_spelled }
         ensures spelled { IfOk result (λ bytes. bytes.items ≡ spelling (tree_at self.now node.0)) }
         ensures within { OnOk result (HasSpellingWithin most (tree_at self.now node.0)) }
         ensures fault { IfErr result (IsWriteFault most (tree_at self.now node.0)) }

@@ -1,10 +1,8 @@
-use Rattle.std.proofs.Common.{FitsSigned, length, ap, ◌∙◌}
+use Rattle.std.proofs.Common.{FitsSigned, length, sym, ◌∙◌}
 use Rattle.std.specs.Int.{w128}
 use Rattle.std.proofs.lemmas.Int.{to_z-of_z}
-use Rattle.clvm_spec.specs.Arithmetic.{is_zero}
 use Rattle.clvm_tree.specs.Operators.{trees_at}
 use Rattle.clvm_ops.proofs.Answered.{faulty, answers_same}
-use Rattle.clvm_ops.proofs.NumberOps.{is_zero-false}
 use Rattle.clvm_ops.proofs.DivisionLaws.{division_is}
 use Rattle.clvm_ops.proofs.division.quotient_and_remainder.Goals as goal
 
@@ -18,5 +16,5 @@ returns c =
     let divisor_fits : FitsSigned w128 c.number-divisor.result = record { sfits = c.number-divisor.type_inv } in
     let divisor = to_z-of_z w128 _ divisor_fits in
     answers_same trees c.give_division.new.trees (length c.args.operands.now) c.args.left _ _ _
-    (division_is (trees_at trees c.args.operands.now) _ _ _ _ c.in_ok-first.ensures.ok (to_z-of_z w128 _ number_fits ∙ c.number-number.ensures) (divisor ∙ c.number-divisor.ensures)
-    (ap is_zero divisor ∙ is_zero-false c.number-divisor.result c.if-divisor-eq0.false)) (c.give_division.ensures (length c.args.operands.now))
+    (division_is c.args.cost (trees_at trees c.args.operands.now) _ _ _ _ c.in_ok-first.ensures.ok (to_z-of_z w128 _ number_fits ∙ c.number-number.ensures) (divisor ∙ c.number-divisor.ensures)
+    (sym c.is_zero.ensures ∙ c.if-is_zero.false)) (c.give_division.ensures (length c.args.operands.now))

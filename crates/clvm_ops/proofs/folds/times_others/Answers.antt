@@ -1,5 +1,6 @@
 use Rattle.std.proofs.Common.{◌*ℤ◌, to_z, length, sym, ap, ◌∙◌, arith}
 use Rattle.std.specs.Int.{w128}
+use Rattle.std.proofs.lemmas.Bool.{leb-true}
 use Rattle.std.proofs.lemmas.Int.{to_z-of_z}
 use Rattle.clvm_spec.specs.Operators.{or_wide, new_number}
 use Rattle.clvm_ops.proofs.NodeLists.{known_at}
@@ -11,7 +12,7 @@ bytes_of-requires c = known_at c.args.trees.now c.args.others.now c.loop-other.o
 
 pub factor_cost-cost-requires-clause-other : goal.factor_cost-cost-requires-clause-other
 factor_cost-cost-requires-clause-other c =
-    omega (arith, short_at c.args.trees.now c.args.others.now c.loop-other.other-index record { 0 = 0 } (omega arith) c.requires.short, ap length c.bytes_of.ensures)
+    omega (arith, leb-true _ 16 (short_at c.args.trees.now c.args.others.now c.loop-other.other-index record { 0 = 0 } (omega arith) c.requires.short), ap length c.bytes_of.ensures)
 
 pub number_of-requires-clause-known : goal.number_of-requires-clause-known
 number_of-requires-clause-known c = known_at c.args.trees.now c.args.others.now c.loop-other.other-index record { 0 = 0 } c.requires.known (omega arith)
@@ -26,8 +27,8 @@ loop-other-preserved c =
     (record { sfits = c.number_of.type_inv }) c.number_of.ensures c.in_ok-number.ensures.0 c.in_ok-number.ensures.1 c.factor_cost-cost.ensures.cost c.factor_cost-cost.ensures.few
     c.number_length-size.ensures.length c.number_length-size.ensures.few
 
-pub returns-in_err-number-clause-product : goal.returns-in_err-number-clause-product
-returns-in_err-number-clause-product c =
+pub returns-in_err-number : goal.returns-in_err-number
+returns-in_err-number c =
     let before = simp (to_z-of_z, c.ranges.first) at c.loop-other.invariant.whole_is in
     before
     ∙ left_wide ◌*ℤ◌ c.args.trees.now c.args.others.now c.loop-other.other-index record { 0 = 0 } (to_z w128 c.loop-other.number-bits) c.number_of.result _ (omega arith)

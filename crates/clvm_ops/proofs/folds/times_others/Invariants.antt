@@ -7,4 +7,4 @@ use Rattle.clvm_ops.proofs.folds.times_others.Given as goal
 
 abbrev pub invariant-loop-other : goal.invariant-loop-other
 invariant-loop-other l =
-    ProductSoFar l.trees l.others l.other-index (from_left ◌*ℤ◌ l.fn.first (numbers_at l.trees l.others) (new_number (92 + factors_cost l.fn.size l.fn.first (atoms_at l.trees l.others)))) l.cost l.size l.number
+    ProductSoFar l.trees l.others l.other-index (from_left ◌*ℤ◌ l.fn.first (numbers_at l.trees l.others) (new_number (l.fn.cost + factors_cost l.fn.size l.fn.first (atoms_at l.trees l.others)))) l.cost l.size l.number

@@ -10,12 +10,12 @@ returns-in_err-size c = faulty c.args.trees.now (length c.args.operands.now) c.a
 pub returns-in_err-charge : goal.returns-in_err-charge
 returns-in_err-charge c =
     let trees = c.args.trees.now in
-    answers_same trees trees (length c.args.operands.now) c.args.left _ _ _ (concat_of_is trees c.args.operands.now c.in_ok-size.size c.in_ok-size.ensures.ok)
+    answers_same trees trees (length c.args.operands.now) c.args.left _ _ _ (concat_of_is c.args.cost trees c.args.operands.now c.in_ok-size.size c.in_ok-size.ensures.ok)
     (spent trees (length c.args.operands.now) c.args.left _ c.in_err-charge.field-0.0 _ c.from_residual-in_err-charge.ensures.1 (c.in_err-charge.ensures.err trees _))
 
 pub returns : goal.returns
 returns c =
     let trees = c.args.trees.now in
     let adds = c.in_ok-atom.ensures.ok in
-    given_new trees c.atom.new.self c.args.left _ _ _ _ _ c.in_ok-charge.charge c.in_ok-atom.field-0 c.answer.result (concat_of_is trees c.args.operands.now c.in_ok-size.size c.in_ok-size.ensures.ok)
+    given_new trees c.atom.new.self c.args.left _ _ _ _ _ c.in_ok-charge.charge c.in_ok-atom.field-0 c.answer.result (concat_of_is c.args.cost trees c.args.operands.now c.in_ok-size.size c.in_ok-size.ensures.ok)
     c.in_ok-charge.ensures.ok adds.grows (omega arith) adds.known (adds.stands ∙ ap Atom (c.deref.ensures.value ∙ c.in_ok-bytes.ensures)) c.answer.ensures

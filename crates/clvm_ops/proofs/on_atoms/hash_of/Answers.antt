@@ -9,5 +9,5 @@ returns-in_err-size c = faulty c.args.trees.now (length c.args.operands.now) c.a
 pub returns-in_err-charge : goal.returns-in_err-charge
 returns-in_err-charge c =
     let trees = c.args.trees.now in
-    answers_same trees trees (length c.args.operands.now) c.args.left _ _ _ (hash_of_is trees c.args.operands.now c.in_ok-size.size c.in_ok-size.ensures.ok)
+    answers_same trees trees (length c.args.operands.now) c.args.left _ _ _ (hash_of_is c.args.cost trees c.args.operands.now c.in_ok-size.size c.in_ok-size.ensures.ok)
     (spent trees (length c.args.operands.now) c.args.left _ c.in_err-charge.field-0.0 _ c.from_residual-in_err-charge.ensures.1 (c.in_err-charge.ensures.err trees _))

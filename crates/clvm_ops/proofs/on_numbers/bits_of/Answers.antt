@@ -14,4 +14,4 @@ returns c =
     let trees = c.args.trees.now in
     let fits : FitsSigned w128 c.of_all-bits.result = record { sfits = c.of_all-bits.type_inv } in
     answers_same trees c.give_number.new.trees (length c.args.operands.now) c.args.left _ _ _
-    (bits_of_is (bitwise_of c.args.step) trees c.args.operands.now c.in_ok-size.size _ c.in_ok-size.ensures.ok (to_z-of_z w128 _ fits ∙ c.of_all-bits.ensures)) (c.give_number.ensures (length c.args.operands.now))
+    (bits_of_is c.args.cost (bitwise_of c.args.step) trees c.args.operands.now c.in_ok-size.size _ c.in_ok-size.ensures.ok (to_z-of_z w128 _ fits ∙ c.of_all-bits.ensures)) (c.give_number.ensures (length c.args.operands.now))

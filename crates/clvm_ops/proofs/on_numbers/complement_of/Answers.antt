@@ -10,7 +10,7 @@ use Rattle.clvm_ops.proofs.on_numbers.complement_of.Goals as goal
 pub returns-in_err-bytes : goal.returns-in_err-bytes
 returns-in_err-bytes c =
     let list = one_operand c.args.trees.now c.args.operands.now record { 0 = 0 } c.in-len1.len_at_least c.in-len1.len_below in
-    answers_same c.args.trees.now c.args.trees.now (length c.args.operands.now) c.args.left _ _ _ (ap (complement_of 331) list)
+    answers_same c.args.trees.now c.args.trees.now (length c.args.operands.now) c.args.left _ _ _ (ap (complement_of c.args.cost) list)
     (faulty c.args.trees.now (length c.args.operands.now) c.args.left _ c.in_err-bytes.field-0.0 _ c.from_residual.ensures.1 (c.in_err-bytes.ensures.err _))
 
 pub returns : goal.returns
@@ -19,4 +19,4 @@ returns c =
     let list = one_operand trees c.args.operands.now record { 0 = 0 } c.in-len1.len_at_least c.in-len1.len_below in
     let fits : FitsSigned w128 c.complement-complement.result = record { sfits = c.complement-complement.type_inv } in
     answers_same trees c.give_number.new.trees (length c.args.operands.now) c.args.left _ _ _
-    (complement_of_is _ _ c.in_ok-bytes.bytes.now _ list c.in_ok-bytes.ensures.ok c.in_ok-bytes.ensures.short (to_z-of_z w128 _ fits ∙ c.complement-complement.ensures)) (c.give_number.ensures (length c.args.operands.now))
+    (complement_of_is c.args.cost _ _ c.in_ok-bytes.bytes.now _ list c.in_ok-bytes.ensures.ok c.in_ok-bytes.ensures.short (to_z-of_z w128 _ fits ∙ c.complement-complement.ensures)) (c.give_number.ensures (length c.args.operands.now))

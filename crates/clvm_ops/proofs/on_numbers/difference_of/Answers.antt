@@ -1,6 +1,7 @@
-use Rattle.std.proofs.Common.{◌+◌, ◌*◌, length, sym, ap, ◌∙◌}
+use Rattle.std.proofs.Common.{length, ap, ◌∙◌}
 use Rattle.clvm_spec.specs.Operators.{or_wide, new_number}
 use Rattle.clvm_ops.proofs.Answered.{faulty, answers_same}
+use Rattle.clvm_ops.proofs.NumberOps.{terms_cost_is}
 use Rattle.clvm_ops.proofs.on_numbers.difference_of.Goals as goal
 
 pub returns-in_err-size : goal.returns-in_err-size
@@ -11,4 +12,4 @@ returns c =
     let trees = c.args.trees.now in
     let count = length c.args.operands.now in
     answers_same trees c.give_if_held.new.trees count c.args.left _ _ _
-    (c.difference-difference.ensures 99 ∙ ap (λ size. or_wide c.difference-difference.result (new_number (99 + 320 * count + 3 * size))) (sym c.in_ok-size.ensures.ok.size_is)) (c.give_if_held.ensures count)
+    (c.difference-difference.ensures c.args.cost ∙ ap (λ cost. or_wide c.difference-difference.result (new_number cost)) (terms_cost_is c.args.cost trees c.args.operands.now c.in_ok-size.size c.in_ok-size.ensures.ok)) (c.give_if_held.ensures count)

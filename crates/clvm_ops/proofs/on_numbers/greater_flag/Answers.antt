@@ -10,4 +10,4 @@ returns-in_err-first c = faulty c.args.trees.now (length c.args.operands.now) c.
 pub returns : goal.returns
 returns c =
     let trees = c.args.trees.now in
-    answers_same trees trees (length c.args.operands.now) c.args.left _ _ _ (greater_flag_is (trees_at trees c.args.operands.now) _ _ _ c.in_ok-first.ensures.ok c.is_greater.ensures) (c.give_flag.ensures (length c.args.operands.now))
+    answers_same trees trees (length c.args.operands.now) c.args.left _ _ _ (greater_flag_is c.args.cost (trees_at trees c.args.operands.now) _ _ _ c.in_ok-first.ensures.ok c.is_greater.ensures) (c.give_flag.ensures (length c.args.operands.now))

@@ -18,7 +18,7 @@ returns-in-Some c =
     let trees = c.args.trees.now in
     let fits : FitsSigned w128 c.in-Some.product.number = search rules in
     answers_same trees c.give_number.new.trees (length c.args.operands.now) c.args.left _ _ _
-    (c.whole_product.ensures.product ∙ ap product_given c.in-Some.is ∙ ap (new_number c.in-Some.product.cost) (sym (to_z-of_z w128 c.in-Some.product.number fits))) (c.give_number.ensures (length c.args.operands.now))
+    (c.whole_product.ensures ∙ ap product_given c.in-Some.is ∙ ap (new_number c.in-Some.product.cost) (sym (to_z-of_z w128 c.in-Some.product.number fits))) (c.give_number.ensures (length c.args.operands.now))
 
 pub returns-in-None : goal.returns-in-None
-returns-in-None c = refused_at_once c.args.trees.now (length c.args.operands.now) c.args.left _ _ (ap Enough (c.whole_product.ensures.product ∙ ap product_given c.in-None.is))
+returns-in-None c = refused_at_once c.args.trees.now (length c.args.operands.now) c.args.left _ _ (ap Enough (c.whole_product.ensures ∙ ap product_given c.in-None.is))

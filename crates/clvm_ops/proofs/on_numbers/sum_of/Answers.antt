@@ -10,4 +10,4 @@ pub returns : goal.returns
 returns c =
     let trees = c.args.trees.now in
     answers_same trees c.give_if_held.new.trees (length c.args.operands.now) c.args.left _ _ _
-    (sum_of_is trees c.args.operands.now c.in_ok-size.size c.plus_others-sum.result c.in_ok-size.ensures.ok c.plus_others-sum.ensures) (c.give_if_held.ensures (length c.args.operands.now))
+    (sum_of_is c.args.cost trees c.args.operands.now c.in_ok-size.size c.plus_others-sum.result c.in_ok-size.ensures.ok c.plus_others-sum.ensures) (c.give_if_held.ensures (length c.args.operands.now))

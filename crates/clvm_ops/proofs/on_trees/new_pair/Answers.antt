@@ -9,4 +9,4 @@ pub returns-in_err-charge : goal.returns-in_err-charge
 returns-in_err-charge c =
     let trees = c.args.trees.now in
     let list = two_operands trees c.args.operands.now record { 0 = 0 } c.in-len2.len_at_least c.in-len2.len_below in
-    answers_same trees trees (length c.args.operands.now) c.args.left _ _ _ (ap (new_pair 50) list) (spent trees (length c.args.operands.now) c.args.left _ c.in_err-charge.field-0.0 _ c.from_residual.ensures.1 (c.in_err-charge.ensures.err trees (Pair _ _)))
+    answers_same trees trees (length c.args.operands.now) c.args.left _ _ _ (ap (new_pair c.args.cost) list) (spent trees (length c.args.operands.now) c.args.left _ c.in_err-charge.field-0.0 _ c.from_residual.ensures.1 (c.in_err-charge.ensures.err trees (Pair _ _)))

@@ -9,5 +9,5 @@ pub returns-in_err-charge : goal.returns-in_err-charge
 returns-in_err-charge c = λ n.
     let trees = c.args.trees.now in
     let within = simp (to_z-of_z, c.ranges.start, c.ranges.end) at c.in-Some.ensures in
-    answers_same trees trees n c.args.left _ _ _ (ap (part_or_fault 1) (ap (λ bytes. part bytes c.args.start c.args.end) (sym c.bytes_of-bytes.ensures) ∙ sym within))
+    answers_same trees trees n c.args.left _ _ _ (ap (part_or_fault c.args.cost) (ap (λ bytes. part bytes c.args.start c.args.end) (sym c.bytes_of-bytes.ensures) ∙ sym within))
     (spent trees n c.args.left _ c.in_err-charge.field-0.0 _ c.from_residual.ensures.1 (c.in_err-charge.ensures.err trees (Atom c.in-Some.bytes.now)))

@@ -12,12 +12,12 @@ returns-in_err-atom_at c = λ n. faulty c.args.trees.now n c.args.left _ c.in_er
 pub returns-in_err-number_at : goal.returns-in_err-number_at
 returns-in_err-number_at c = λ n.
     faulty c.args.trees.now n c.args.left _ c.in_err-number_at.field-0.0 _ c.from_residual-in_err-number_at.ensures.1
-    (start_before_end_bad c.args.trees.now (tree_at c.args.trees.now c.args.atom.0) (tree_at c.args.trees.now c.args.start.0) (tree_at c.args.trees.now c.args.end.0) c.in_ok-atom_at.field-0.now _ c.in_ok-atom_at.ensures.ok c.in_err-number_at.ensures.err)
+    (start_before_end_bad c.args.cost c.args.trees.now (tree_at c.args.trees.now c.args.atom.0) (tree_at c.args.trees.now c.args.start.0) (tree_at c.args.trees.now c.args.end.0) c.in_ok-atom_at.field-0.now _ c.in_ok-atom_at.ensures.ok c.in_err-number_at.ensures.err)
 
 pub returns-in_err-number_at-2 : goal.returns-in_err-number_at-2
 returns-in_err-number_at-2 c = λ n.
     faulty c.args.trees.now n c.args.left _ c.in_err-number_at-2.field-0.0 _ c.from_residual-in_err-number_at-2.ensures.1
-    (end_bad c.args.trees.now (tree_at c.args.trees.now c.args.atom.0) (tree_at c.args.trees.now c.args.start.0) (tree_at c.args.trees.now c.args.end.0) c.in_ok-atom_at.field-0.now c.in_ok-number_at.field-0.now _ c.in_ok-atom_at.ensures.ok c.in_ok-number_at.ensures.ok c.in_ok-number_at.ensures.short c.in_err-number_at-2.ensures.err)
+    (end_bad c.args.cost c.args.trees.now (tree_at c.args.trees.now c.args.atom.0) (tree_at c.args.trees.now c.args.start.0) (tree_at c.args.trees.now c.args.end.0) c.in_ok-atom_at.field-0.now c.in_ok-number_at.field-0.now _ c.in_ok-atom_at.ensures.ok c.in_ok-number_at.ensures.ok c.in_ok-number_at.ensures.short c.in_err-number_at-2.ensures.err)
 
 pub returns : goal.returns
 returns c = λ n.
@@ -25,5 +25,5 @@ returns c = λ n.
     let start_fits : FitsSigned w128 c.number-start.result = record { sfits = c.number-start.type_inv } in
     let end_fits : FitsSigned w128 c.number-end.result = record { sfits = c.number-end.type_inv } in
     answers_same trees c.give_part.new.trees n c.args.left _ _ _
-    (part_between_is (tree_at trees c.args.atom.0) (tree_at trees c.args.start.0) (tree_at trees c.args.end.0) c.in_ok-atom_at.field-0.now c.in_ok-number_at.field-0.now c.in_ok-number_at-2.field-0.now _ _ c.in_ok-atom_at.ensures.ok c.in_ok-number_at.ensures.ok c.in_ok-number_at.ensures.short
+    (part_between_is c.args.cost (tree_at trees c.args.atom.0) (tree_at trees c.args.start.0) (tree_at trees c.args.end.0) c.in_ok-atom_at.field-0.now c.in_ok-number_at.field-0.now c.in_ok-number_at-2.field-0.now _ _ c.in_ok-atom_at.ensures.ok c.in_ok-number_at.ensures.ok c.in_ok-number_at.ensures.short
     c.in_ok-number_at-2.ensures.ok c.in_ok-number_at-2.ensures.short (to_z-of_z w128 _ start_fits ∙ c.number-start.ensures) (to_z-of_z w128 _ end_fits ∙ c.number-end.ensures)) (c.give_part.ensures n)

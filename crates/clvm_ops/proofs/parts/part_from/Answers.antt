@@ -12,7 +12,7 @@ returns-in_err-size c = λ n. faulty c.args.trees.now n c.args.left _ c.in_err-s
 pub returns-in_err-number_at : goal.returns-in_err-number_at
 returns-in_err-number_at c = λ n.
     faulty c.args.trees.now n c.args.left _ c.in_err-number_at.field-0.0 _ c.from_residual-in_err-number_at.ensures.1
-    (start_bad c.args.trees.now (tree_at c.args.trees.now c.args.atom.0) (tree_at c.args.trees.now c.args.start.0) c.in_ok-size.field-0.now _ c.in_ok-size.ensures.ok c.in_err-number_at.ensures.err)
+    (start_bad c.args.cost c.args.trees.now (tree_at c.args.trees.now c.args.atom.0) (tree_at c.args.trees.now c.args.start.0) c.in_ok-size.field-0.now _ c.in_ok-size.ensures.ok c.in_err-number_at.ensures.err)
 
 pub returns : goal.returns
 returns c = λ n.
@@ -20,5 +20,5 @@ returns c = λ n.
     let fits : FitsSigned w128 c.number-start.result = record { sfits = c.number-start.type_inv } in
     let long : length c.in_ok-size.field-0.now < 2 ^ 63 = search rules in
     answers_same trees c.give_part.new.trees n c.args.left _ _ _
-    (part_from_is (tree_at trees c.args.atom.0) (tree_at trees c.args.start.0) c.in_ok-size.field-0.now c.in_ok-number_at.field-0.now _ _ c.in_ok-size.ensures.ok c.in_ok-number_at.ensures.ok c.in_ok-number_at.ensures.short
+    (part_from_is c.args.cost (tree_at trees c.args.atom.0) (tree_at trees c.args.start.0) c.in_ok-size.field-0.now c.in_ok-number_at.field-0.now _ _ c.in_ok-size.ensures.ok c.in_ok-number_at.ensures.ok c.in_ok-number_at.ensures.short
     (to_z-of_z w128 _ fits ∙ c.number-start.ensures) (to_z_pos w128 _ (omega arith))) (c.give_part.ensures n)

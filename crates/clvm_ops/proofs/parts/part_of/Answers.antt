@@ -11,18 +11,18 @@ pub returns-in-len2 : goal.returns-in-len2
 returns-in-len2 c =
     let trees = c.args.trees.now in
     let list = two_operands trees c.args.operands.now record { 0 = 0 } c.in-len2.len_at_least c.in-len2.len_below in
-    answers_same trees c.part_from.new.trees (length c.args.operands.now) c.args.left _ _ _ (ap (part_of 1) list) (c.part_from.ensures (length c.args.operands.now))
+    answers_same trees c.part_from.new.trees (length c.args.operands.now) c.args.left _ _ _ (ap (part_of c.args.cost) list) (c.part_from.ensures (length c.args.operands.now))
 
 pub returns-in-len3 : goal.returns-in-len3
 returns-in-len3 c =
     let trees = c.args.trees.now in
     let list = three_operands trees c.args.operands.now record { 0 = 0 } c.in-len3.len_at_least c.in-len3.len_below in
-    answers_same trees c.part_between.new.trees (length c.args.operands.now) c.args.left _ _ _ (ap (part_of 1) list) (c.part_between.ensures (length c.args.operands.now))
+    answers_same trees c.part_between.new.trees (length c.args.operands.now) c.args.left _ _ _ (ap (part_of c.args.cost) list) (c.part_between.ensures (length c.args.operands.now))
 
 pub returns-in_default : goal.returns-in_default
 returns-in_default c =
-    refused_at_once c.args.trees.now (length c.args.operands.now) c.args.left _ fault.Count (ap Enough (part_of_few c.args.trees.now c.args.operands.now c.in_default.len_below))
+    refused_at_once c.args.trees.now (length c.args.operands.now) c.args.left _ fault.Count (ap Enough (part_of_few c.args.cost c.args.trees.now c.args.operands.now c.in_default.len_below))
 
 pub returns-in_default-2 : goal.returns-in_default-2
 returns-in_default-2 c =
-    refused_at_once c.args.trees.now (length c.args.operands.now) c.args.left _ fault.Count (ap Enough (part_of_many c.args.trees.now c.args.operands.now c.in_default.len_at_least))
+    refused_at_once c.args.trees.now (length c.args.operands.now) c.args.left _ fault.Count (ap Enough (part_of_many c.args.cost c.args.trees.now c.args.operands.now c.in_default.len_at_least))

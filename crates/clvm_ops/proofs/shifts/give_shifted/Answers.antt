@@ -2,9 +2,8 @@ use Rattle.std.proofs.Common.{FitsSigned, ◌+◌, ◌*◌, length, sym, ap, ap�
 use Rattle.std.specs.Int.{w128}
 use Rattle.std.proofs.lemmas.Int.{to_z-of_z}
 use Rattle.clvm_spec.specs.Numbers.{shortest_atom}
-use Rattle.clvm_spec.specs.Operators.{or_wide, new_number, new_shifted, written}
-use Rattle.clvm_ops.proofs.Answered.{answers_same, new_number_held}
-use Rattle.clvm_ops.proofs.Fits.{held}
+use Rattle.clvm_spec.specs.Operators.{or_wide, new_number, new_shifted}
+use Rattle.clvm_ops.proofs.Answered.{answers_same}
 use Rattle.clvm_ops.proofs.shifts.give_shifted.Goals as goal
 
 pub returns-in-Some : goal.returns-in-Some
@@ -12,9 +11,6 @@ returns-in-Some c = λ operands.
     let fits : FitsSigned w128 c.in-Some.number = search rules in
     let word = to_z-of_z w128 c.in-Some.number fits in
     let size = c.number_length.ensures.length ∙ ap (λ k. length (shortest_atom k)) word in
-    let n = c.in-Some.number in
-    let cost = c.args.cost + 3 * (c.args.size + length (shortest_atom n)) in
     answers_same c.args.trees.now c.give_number.new.trees operands c.args.left _ _ _
     (ap (λ held. or_wide held (new_shifted c.args.cost c.args.size)) c.in-Some.is
-    ∙ ap (λ held. or_wide held (λ n. written (c.args.cost + 3 * (c.args.size + length (shortest_atom n))) (shortest_atom n))) (held n fits) ∙ sym (new_number_held cost n fits)
     ∙ ap₂ (λ k m. new_number (c.args.cost + 3 * (c.args.size + k)) m) (sym size) (sym word)) (c.give_number.ensures operands)

@@ -16,5 +16,5 @@ returns c =
     let by_fits : FitsSigned w128 c.number-by.result = record { sfits = c.number-by.type_inv } in
     let fair : is_shift (to_z w128 (of_z w128 c.number-by.result)) ≡ true = search rules in
     answers_same trees c.give_shifted.new.trees (length c.args.operands.now) c.args.left _ _ _
-    (shift_of_bits_is (trees_at trees c.args.operands.now) c.in_ok-value.value.now c.in_ok-value.by.now _ _ c.bits_shifted-shifted.result c.in_ok-value.ensures.ok c.unsigned.ensures
-    (to_z-of_z w128 _ by_fits ∙ c.number-by.ensures) fair c.bits_shifted-shifted.ensures) (c.give_shifted.ensures (length c.args.operands.now))
+    (shift_of_bits_is c.args.cost (trees_at trees c.args.operands.now) c.in_ok-value.value.now c.in_ok-value.by.now _ _ c.bits_shifted-bits.result c.in_ok-value.ensures.ok c.unsigned.ensures
+    (to_z-of_z w128 _ by_fits ∙ c.number-by.ensures) fair c.bits_shifted-bits.ensures) (c.give_shifted.ensures (length c.args.operands.now))

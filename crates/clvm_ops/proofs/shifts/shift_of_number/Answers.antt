@@ -17,5 +17,5 @@ returns c =
     let by_fits : FitsSigned w128 c.number-by.result = record { sfits = c.number-by.type_inv } in
     let fair : is_shift (to_z w128 (of_z w128 c.number-by.result)) ≡ true = search rules in
     answers_same trees c.give_shifted.new.trees (length c.args.operands.now) c.args.left _ _ _
-    (shift_of_number_is (trees_at trees c.args.operands.now) c.in_ok-value.value.now c.in_ok-value.by.now _ _ c.shifted-shifted.result c.in_ok-value.ensures.ok (to_z-of_z w128 _ value_fits ∙ c.number.ensures)
+    (shift_of_number_is c.args.cost (trees_at trees c.args.operands.now) c.in_ok-value.value.now c.in_ok-value.by.now _ _ c.shifted-shifted.result c.in_ok-value.ensures.ok (to_z-of_z w128 _ value_fits ∙ c.number.ensures)
     (to_z-of_z w128 _ by_fits ∙ c.number-by.ensures) fair c.shifted-shifted.ensures) (c.give_shifted.ensures (length c.args.operands.now))

@@ -3,8 +3,8 @@ use Rattle.std.proofs.lemmas.Result.{err_from_is_err_and}
 use Rattle.clvm_spec.specs.Spelling.{spelling, atom_spelling}
 use Rattle.clvm_spec.proofs.SpellingLaws.{spelling_some, short_has_spelling}
 use Rattle.clvm_tree.specs.Nodes.{tree_at, IsKnown, AreKnown}
-use Rattle.clvm_tree.specs.Writes.{spellings, IsWriteFault}
-use Rattle.clvm_tree.proofs.PendingLaws.{AreKnown-init, AreKnown-push, next_spelled, too_long, fault_is, pair_spelled, all_spelled}
+use Rattle.clvm_tree.specs.Writes.{IsWriteFault}
+use Rattle.clvm_tree.proofs.PendingLaws.{spellings, AreKnown-init, AreKnown-push, next_spelled, too_long, fault_is, pair_spelled, all_spelled}
 use Rattle.clvm_tree.proofs.arena.Trees.write.Goals as goal
 use Rattle.clvm_tree.proofs.arena.Trees.write.Goals.{In-Some}
 

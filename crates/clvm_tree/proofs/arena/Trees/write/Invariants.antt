@@ -1,7 +1,7 @@
 use Rattle.std.proofs.Common.{◌≡◌, ◌+◌, ◌-◌, ◌≤◌, ◌++◌, vec_len}
 use Rattle.clvm_spec.specs.Spelling.{spelling}
 use Rattle.clvm_tree.specs.Nodes.{tree_at, AreKnown}
-use Rattle.clvm_tree.specs.Writes.{spellings}
+use Rattle.clvm_tree.proofs.PendingLaws.{spellings}
 use Rattle.clvm_tree.proofs.arena.Trees.write.Given as goal
 
 abbrev pub invariant-nodes : goal.invariant-nodes
