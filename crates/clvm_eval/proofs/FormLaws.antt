@@ -1,5 +1,5 @@
 -- How an operator form is begun, and how an operator ends it.
-use Rattle.std.proofs.Common.{◌≡◌, ℕ, suc, ◌+◌, ◌-◌, ◌<◌, ◌≤◌, true, false, List, [], ◌∷◌, ◌++◌, length, reverse, take, drop, get_or, Option, Some, None, refl, sym, ◌∙◌, ap, subst, arith, append_assoc}
+use Rattle.std.proofs.Common.{◌≡◌, ℕ, suc, ◌+◌, ◌-◌, ◌≤◌, true, false, List, [], ◌∷◌, ◌++◌, length, reverse, take, drop, get_or, Option, Some, None, refl, sym, ◌∙◌, ap, subst, arith, append_assoc}
 use Rattle.std.specs.Prelude.{Result, Ok, Err, OnOk, option_map}
 use Rattle.std.proofs.lemmas.List.{map-append, reverse-append, length-append, length-reverse, length-take-le, take-append-drop, take_at, drop_at, drop_more, drop_all}
 use Rattle.clvm_spec.specs.declared.fuel.Fuel.{Fuel}
@@ -7,9 +7,11 @@ use Rattle.clvm_spec.specs.declared.fuel.Which.TheVariants.{Cost, Depth}
 use Rattle.clvm_spec.specs.Tree.{Tree, Atom, Pair}
 use Rattle.clvm_spec.specs.ProperList.{elements}
 use Rattle.clvm_spec.specs.Outcomes.{NotAList, WrongCount, Outcome, Done, Failed, Spent}
-use Rattle.clvm_spec.specs.Evaluation.{if_done, charge, goes_on, in_form, apply_values, values_of, deeper, operator_form, evaluation, is_code}
+use Rattle.clvm_spec.specs.Evaluation.{if_done, charge, goes_on, in_form, apply_values, values_of, is_too_deep, deeper, operator_form, evaluation, is_code}
+use Rattle.clvm_spec.specs.OperatorTable.{apply_code}
 use Rattle.clvm_tree.specs.Nodes.{tree_at, IsKnown, AreKnown, Grows}
-use Rattle.clvm_spec.specs.Spending.{fuel_less}
+use Rattle.clvm_spec.specs.Spending.{exceeds, fuel_less}
+use Rattle.clvm_spec.proofs.SpendingLaws.{covers}
 use Rattle.clvm_tree.specs.Operators.{trees_at, spending_of, outcome_by, IsAnswer, IsWithin}
 use Rattle.clvm_tree.specs.declared.Node.{Node}
 use Rattle.clvm_tree.specs.declared.operators.Answer.{Answer}
@@ -21,9 +23,9 @@ use Rattle.clvm_eval.specs.declared.pending.Call.{Call}
 use Rattle.clvm_eval.specs.declared.pending.Task.{Task}
 use Rattle.clvm_eval.specs.declared.pending.Task.TheVariants as task
 use Rattle.clvm_eval.specs.declared.pending.Pending.{Pending}
-use Rattle.clvm_eval.specs.PendingWork.{Work, Evaluate, Operate, operated, done_by, worked_off, ends, operand_work, Suffices, AllSuffice}
-use Rattle.clvm_eval.specs.Steps.{work_of, works, newest_first, pending_outcome, IsExpression, IsCall, IsTask, AreTasks, IsState, Awaits, expression_outcome, call_outcome, task_outcome, taken_by, goes_with, Advances, Pays, IsTooDeep, IsForm, HasElements, AddsOperands}
-use Rattle.clvm_eval.proofs.WorkLaws.{charge-paid, charge-short, deeper-within, deeper-spent, worked_off-append, AllSuffice-append, AllSuffice-operands, operated-apply, operated-other, worked_off-form, ev-form}
+use Rattle.clvm_eval.specs.PendingWork.{Work, Evaluate, Operate, operated, done_by, worked_off, ends, operand_work, HasOperands, AllHaveOperands}
+use Rattle.clvm_eval.specs.Steps.{work_of, works, newest_first, pending_outcome, IsExpression, IsCall, IsTask, AreTasks, IsState, Awaits, expression_outcome, call_outcome, task_outcome, taken_by, goes_with, Advances, Pays, IsForm, HasElements, AddsOperands}
+use Rattle.clvm_eval.proofs.WorkLaws.{charge-paid, charge-short, paid-enough, deeper-within, deeper-spent, worked_off-append, AllHaveOperands-append, AllHaveOperands-operands, operated-apply, operated-other, worked_off-form, ev-form}
 use Rattle.clvm_eval.proofs.StateLaws.{length-newest, AreTasks-push, AreTasks-init, AreKnown-take, AreKnown-drop, AreKnown-append, AreKnown-reverse, newest-taken, newest-kept, value_put}
 
 abbrev one_end : ℕ → Type 0
@@ -47,18 +49,17 @@ module _ (trees : List Tree) (before after : Pending) (e : Expression) (code : N
       added ∙ ap (λ ts. works trees ts ++ operand_work (tree_at trees e.env.0) (e.depth + 1) ops) is
       ∙ ap (λ ws. ws ++ operand_work (tree_at trees e.env.0) (e.depth + 1) ops) (map-append (work_of trees) before.tasks.items (task.Apply call ∷ []))
 
-  begun_part : Awaits trees before 0 → (form : IsForm trees e.program.0 code.0 operands) → (elems : HasElements trees operands count) → Pays 1 before.left after.left → (0 < count → e.depth < after.left.depth) →
+  begun_part : Awaits trees before 0 → (form : IsForm trees e.program.0 code.0 operands) → (elems : HasElements trees operands count) → Pays 1 before.left after.left → is_too_deep count e.depth after.left.depth ≡ false →
       expression_outcome trees before e ≡ values_of (λ operand. evaluation operand (tree_at trees e.env.0) (suc e.depth)) elems.operands after.left (apply_values evaluation form.bytes (tree_at trees e.program.0) e.depth)
   begun_part awaits form elems paid within =
       let program = tree_at trees e.program.0 in
       let env = tree_at trees e.env.0 in
-      let long = elems.long in
       ev-form program env e.depth before.left (tree_at trees code.0) (tree_at trees operands) form.bytes form.parts.pair form.is_atom form.no_quote
       ∙ ap (λ ops. operator_form evaluation form.bytes program env e.depth ops before.left) elems.are
       ∙ charge-paid 1 before.left after.left (λ left. deeper elems.operands e.depth left (λ left. values_of (λ operand. evaluation operand env (suc e.depth)) elems.operands left (apply_values evaluation form.bytes program e.depth))) paid
-      ∙ deeper-within elems.operands e.depth after.left (λ left. values_of (λ operand. evaluation operand env (suc e.depth)) elems.operands left (apply_values evaluation form.bytes program e.depth)) (λ some. within (omega arith))
+      ∙ deeper-within elems.operands e.depth after.left (λ left. values_of (λ operand. evaluation operand env (suc e.depth)) elems.operands left (apply_values evaluation form.bytes program e.depth)) (ap (λ n. is_too_deep n e.depth after.left.depth) elems.long ∙ within)
 
-  pub form_begun : Awaits trees before 0 → IsExpression trees e → (form : IsForm trees e.program.0 code.0 operands) → IsKnown trees code.0 → IsKnown trees operands → (elems : HasElements trees operands count) → Pays 1 before.left after.left → (0 < count → e.depth < after.left.depth) →
+  pub form_begun : Awaits trees before 0 → IsExpression trees e → (form : IsForm trees e.program.0 code.0 operands) → IsKnown trees code.0 → IsKnown trees operands → (elems : HasElements trees operands count) → Pays 1 before.left after.left → is_too_deep count e.depth after.left.depth ≡ false →
       middle ≡ before.tasks.items ++ task.Apply call ∷ [] → AddsOperands trees operands (tree_at trees e.env.0) (e.depth + 1) middle after.tasks.items → after.values.items ≡ before.values.items →
       Advances trees trees before after 0 (expression_outcome trees before e)
   form_begun awaits known form code_known operands_known elems paid within is adds values =
@@ -67,7 +68,7 @@ module _ (trees : List Tree) (before after : Pending) (e : Expression) (code : N
       let ops = elems.operands in
       let deeper_work = operand_work env (e.depth + 1) ops in
       let vals = newest_first trees before.values.items in
-      let enough_cost = paid.enough in
+      let enough_cost = paid-enough 1 before.left after.left paid in
       let left = paid.is in
       let costs : after.left.cost ≡ before.left.cost - 1 = ap (λ (l : Fuel). l.cost) left in
       let pairs : after.left.pairs ≡ before.left.pairs = ap (λ (l : Fuel). l.pairs) left in
@@ -79,16 +80,16 @@ module _ (trees : List Tree) (before after : Pending) (e : Expression) (code : N
       let long = elems.long in
       let n = length after.values.items in
       let same_count : n ≡ length before.values.items = ap length values in
-      let all_fits : AllSuffice ((below ++ operator_work ∷ []) ++ deeper_work) one_end n ≡ Suffices operator_work (AllSuffice below one_end) (length ops + n) =
-      ap (λ (go : ℕ → Type 0). go n) (AllSuffice-append (below ++ operator_work ∷ []) deeper_work one_end ∙ ap (AllSuffice deeper_work) (AllSuffice-append below (operator_work ∷ []) one_end))
-      ∙ AllSuffice-operands env (e.depth + 1) ops (Suffices operator_work (AllSuffice below one_end)) n
+      let all_fits : AllHaveOperands ((below ++ operator_work ∷ []) ++ deeper_work) one_end n ≡ HasOperands operator_work (AllHaveOperands below one_end) (length ops + n) =
+      ap (λ (go : ℕ → Type 0). go n) (AllHaveOperands-append (below ++ operator_work ∷ []) deeper_work one_end ∙ ap (AllHaveOperands deeper_work) (AllHaveOperands-append below (operator_work ∷ []) one_end))
+      ∙ AllHaveOperands-operands env (e.depth + 1) ops (HasOperands operator_work (AllHaveOperands below one_end)) n
       in
       let back : suc (length before.values.items - 0) ≡ suc (length ops + n - count) = omega arith in
-      let fits : Suffices operator_work (AllSuffice below one_end) (length ops + n) = (omega arith, subst (AllSuffice below one_end) back awaits.state.enough) in
+      let fits : HasOperands operator_work (AllHaveOperands below one_end) (length ops + n) = (omega arith, subst (AllHaveOperands below one_end) back awaits.state.enough) in
       let state : IsState trees after n = record {
         tasks = adds.sound;
         values = subst (AreKnown trees) (sym values) awaits.state.values;
-        enough = subst (λ ws. AllSuffice ws one_end n) (sym works_are) (subst (λ (T : Type 0). T) (sym all_fits) fits);
+        enough = subst (λ ws. AllHaveOperands ws one_end n) (sym works_are) (subst (λ (T : Type 0). T) (sym all_fits) fits);
         room = omega arith;
         shallow = omega arith;
       } in
@@ -124,17 +125,15 @@ module _ (trees : List Tree) (before : Pending) (e : Expression) (code operands 
   charged : (ops : List Tree) → elements (tree_at trees operands) ≡ Some ops → expression_outcome trees before e ≡ charge 1 before.left (λ left. deeper ops e.depth left (with_operands ops))
   charged ops are = form_part ∙ ap (λ o. operator_form evaluation form.bytes (tree_at trees e.program.0) (tree_at trees e.env.0) e.depth o before.left) are
 
-  pub form_unpaid : (count : ℕ) → HasElements trees operands count → before.left.cost < 1 → expression_outcome trees before e ≡ Spent Cost
+  pub form_unpaid : (count : ℕ) → HasElements trees operands count → exceeds 1 before.left.cost ≡ true → expression_outcome trees before e ≡ Spent Cost
   form_unpaid count elems short =
       charged elems.operands elems.are ∙ charge-short 1 before.left (λ left. deeper elems.operands e.depth left (with_operands elems.operands)) short
 
-  pub form_too_deep : (count : ℕ) (left : Fuel) → HasElements trees operands count → Pays 1 before.left left → IsTooDeep count e.depth left.depth → expression_outcome trees before e ≡ Spent Depth
+  pub form_too_deep : (count : ℕ) (left : Fuel) → HasElements trees operands count → Pays 1 before.left left → is_too_deep count e.depth left.depth ≡ true → expression_outcome trees before e ≡ Spent Depth
   form_too_deep count left elems paid deep =
-      let long = elems.long in
-      let some = deep.some in
       charged elems.operands elems.are
       ∙ charge-paid 1 before.left left (λ left. deeper elems.operands e.depth left (with_operands elems.operands)) paid
-      ∙ deeper-spent elems.operands e.depth left (with_operands elems.operands) (omega arith) deep.deep
+      ∙ deeper-spent elems.operands e.depth left (with_operands elems.operands) (ap (λ n. is_too_deep n e.depth left.depth) elems.long ∙ deep)
 
 -- ---- operands
 
@@ -171,12 +170,12 @@ module _ (trees : List Tree) (before after : Pending) (call : Call) (program env
   abbrev expression : Expression
   expression = record { program = program; env = env; depth = call.depth }
 
-  pub gone_on : Awaits trees before call.count → IsCall trees call → is_code 2 (tree_at trees call.code.0) ≡ true → call.count ≡ 2 → start + 2 ≡ length before.values.items → Pays 90 before.left after.left →
+  pub gone_on : Awaits trees before call.count → IsCall trees call → is_code apply_code (tree_at trees call.code.0) ≡ true → call.count ≡ 2 → start + 2 ≡ length before.values.items → Pays 90 before.left after.left →
       env ≡ get_or before.values.items start env → program ≡ get_or before.values.items (start + 1) program → after.values.items ≡ take start before.values.items →
       after.tasks.items ≡ before.tasks.items ++ task.Evaluate expression ∷ [] → Advances trees trees before after call.count (call_outcome trees before call)
   gone_on awaits known apply two start_is paid env_is program_is values tasks =
       let left = paid.is in
-      let enough_cost = paid.enough in
+      let enough_cost = paid-enough 90 before.left after.left paid in
       let costs : after.left.cost ≡ before.left.cost - 90 = ap (λ (l : Fuel). l.cost) left in
       let pairs : after.left.pairs ≡ before.left.pairs = ap (λ (l : Fuel). l.pairs) left in
       let bytes : after.left.bytes ≡ before.left.bytes = ap (λ (l : Fuel). l.bytes) left in
@@ -199,8 +198,8 @@ module _ (trees : List Tree) (before after : Pending) (call : Call) (program env
       newest-taken trees items call.count awaits.there ∙ ap (λ i. newest_first trees (drop i items)) at ∙ ap (newest_first trees) end
       in
       let count : length after.values.items ≡ start = omega (arith, ap length values, length-take-le start items (omega arith)) in
-      let fits : AllSuffice (below ++ work ∷ []) one_end (length after.values.items) ≡ AllSuffice below one_end (suc (length after.values.items)) =
-      ap (λ (go : ℕ → Type 0). go (length after.values.items)) (AllSuffice-append below (work ∷ []) one_end)
+      let fits : AllHaveOperands (below ++ work ∷ []) one_end (length after.values.items) ≡ AllHaveOperands below one_end (suc (length after.values.items)) =
+      ap (λ (go : ℕ → Type 0). go (length after.values.items)) (AllHaveOperands-append below (work ∷ []) one_end)
       in
       let back : suc (length items - call.count) ≡ suc (length after.values.items) = omega arith in
       let part : call_outcome trees before call ≡ evaluation (tree_at trees program.0) (tree_at trees env.0) call.depth after.left =
@@ -212,7 +211,7 @@ module _ (trees : List Tree) (before after : Pending) (call : Call) (program env
       let state : IsState trees after (length after.values.items) = record {
         tasks = subst (AreTasks trees) (sym tasks) (AreTasks-push trees before.tasks.items (task.Evaluate e) awaits.state.tasks task_known);
         values = subst (AreKnown trees) (sym values) (AreKnown-take trees start items awaits.state.values);
-        enough = subst (λ ws. AllSuffice ws one_end (length after.values.items)) (sym works_are) (subst (λ (T : Type 0). T) (sym fits) (subst (AllSuffice below one_end) back awaits.state.enough));
+        enough = subst (λ ws. AllHaveOperands ws one_end (length after.values.items)) (sym works_are) (subst (λ (T : Type 0). T) (sym fits) (subst (AllHaveOperands below one_end) back awaits.state.enough));
         room = omega arith;
         shallow = omega arith;
       } in
@@ -233,7 +232,7 @@ goes_on-count form depth (p ∷ []) left h = refl
 goes_on-count form depth (p ∷ e ∷ []) left h = absurd (h refl)
 goes_on-count form depth (p ∷ e ∷ c ∷ more) left h = refl
 
-goes_on-short : (form : Tree) (depth : ℕ) (values : List Tree) (left : Fuel) → length values ≡ 2 → left.cost < 90 → goes_on evaluation form depth values left ≡ Spent Cost
+goes_on-short : (form : Tree) (depth : ℕ) (values : List Tree) (left : Fuel) → length values ≡ 2 → exceeds 90 left.cost ≡ true → goes_on evaluation form depth values left ≡ Spent Cost
 goes_on-short form depth [] left two short = absurd (omega arith)
 goes_on-short form depth (p ∷ []) left two short = absurd (omega arith)
 goes_on-short form depth (p ∷ e ∷ []) left two short = charge-short 90 left (evaluation p e depth) short
@@ -244,12 +243,12 @@ taken_long trees before call awaits =
     let there = awaits.there in
     length-take-le call.count (newest_first trees before.values.items) (omega (arith, length-newest trees before.values.items))
 
-pub wrong_count : (trees : List Tree) (before : Pending) (call : Call) → Awaits trees before call.count → is_code 2 (tree_at trees call.code.0) ≡ true → (call.count ≡ 2 → ⊥) → call_outcome trees before call ≡ Failed WrongCount (tree_at trees call.form.0)
+pub wrong_count : (trees : List Tree) (before : Pending) (call : Call) → Awaits trees before call.count → is_code apply_code (tree_at trees call.code.0) ≡ true → (call.count ≡ 2 → ⊥) → call_outcome trees before call ≡ Failed WrongCount (tree_at trees call.form.0)
 wrong_count trees before call awaits apply other =
     operated-apply (tree_at trees call.code.0) (tree_at trees call.form.0) call.depth (take call.count (newest_first trees before.values.items)) before.left apply
     ∙ goes_on-count (tree_at trees call.form.0) call.depth (take call.count (newest_first trees before.values.items)) before.left (λ e. other (sym (taken_long trees before call awaits) ∙ e))
 
-pub unpaid_apply : (trees : List Tree) (before : Pending) (call : Call) → Awaits trees before call.count → is_code 2 (tree_at trees call.code.0) ≡ true → call.count ≡ 2 → before.left.cost < 90 → call_outcome trees before call ≡ Spent Cost
+pub unpaid_apply : (trees : List Tree) (before : Pending) (call : Call) → Awaits trees before call.count → is_code apply_code (tree_at trees call.code.0) ≡ true → call.count ≡ 2 → exceeds 90 before.left.cost ≡ true → call_outcome trees before call ≡ Spent Cost
 unpaid_apply trees before call awaits apply two short =
     operated-apply (tree_at trees call.code.0) (tree_at trees call.form.0) call.depth (take call.count (newest_first trees before.values.items)) before.left apply
     ∙ goes_on-short (tree_at trees call.form.0) call.depth (take call.count (newest_first trees before.values.items)) before.left (taken_long trees before call awaits ∙ two) short
@@ -287,12 +286,12 @@ pub on_ok : {T E : Type 0} (r : Result T E) (P Q : Type 0) → (P → Q) → OnO
 on_ok (Ok x) P Q f h = f h
 on_ok (Err e) P Q f h = h
 
-pub other_part : (trees : List Tree) (before : Pending) (call : Call) → is_code 2 (tree_at trees call.code.0) ≡ false →
+pub other_part : (trees : List Tree) (before : Pending) (call : Call) → is_code apply_code (tree_at trees call.code.0) ≡ false →
     call_outcome trees before call ≡ in_form (tree_at trees call.form.0) before.left (outcome_by (tree_at trees call.code.0) (take call.count (newest_first trees before.values.items)) before.left)
 other_part trees before call other =
     operated-other (tree_at trees call.code.0) (tree_at trees call.form.0) call.depth (take call.count (newest_first trees before.values.items)) before.left other
 
-pub answered : (old new : List Tree) (before after : Pending) (call : Call) (answer : Answer) → Awaits old before call.count → is_code 2 (tree_at old call.code.0) ≡ false → Grows old new →
+pub answered : (old new : List Tree) (before after : Pending) (call : Call) (answer : Answer) → Awaits old before call.count → is_code apply_code (tree_at old call.code.0) ≡ false → Grows old new →
     length new ≤ length old + answer.pairs + answer.bytes → IsWithin before.left answer →
     IsAnswer new (outcome_by (tree_at old call.code.0) (take call.count (newest_first old before.values.items)) before.left) answer →
     after.tasks.items ≡ before.tasks.items → after.values.items ≡ take (length before.values.items - call.count) before.values.items ++ answer.value ∷ [] →
@@ -304,9 +303,10 @@ answered old new before after call answer awaits other grows few within gives ta
     let bytes : after.left.bytes ≡ before.left.bytes - answer.bytes = ap (λ (l : Fuel). l.bytes) left in
     let depths : after.left.depth ≡ before.left.depth = ap (λ (l : Fuel). l.depth) left in
     let some = within.some in
-    let c = within.enough.cost in
-    let p = within.enough.pairs in
-    let b = within.enough.bytes in
+    let enough = covers before.left (spending_of answer) within.enough in
+    let c = enough.cost in
+    let p = enough.pairs in
+    let b = enough.bytes in
     let form = tree_at old call.form.0 in
     let part : call_outcome old before call ≡ Done (tree_at new answer.value.0) after.left =
     other_part old before call other ∙ ap (in_form form before.left) gives.gives ∙ ap (Done (tree_at new answer.value.0)) (sym left)
@@ -319,14 +319,14 @@ module _ (trees : List Tree) (before popped : Pending) (state : IsState trees be
   works_before : (t : Task) → before.tasks.items ≡ popped.tasks.items ++ t ∷ [] → works trees before.tasks.items ≡ works trees popped.tasks.items ++ work_of trees t ∷ []
   works_before t is = ap (works trees) is ∙ map-append (work_of trees) popped.tasks.items (t ∷ [])
 
-  enough_for : (t : Task) → before.tasks.items ≡ popped.tasks.items ++ t ∷ [] → Suffices (work_of trees t) (AllSuffice (works trees popped.tasks.items) one_end) (length popped.values.items)
+  enough_for : (t : Task) → before.tasks.items ≡ popped.tasks.items ++ t ∷ [] → HasOperands (work_of trees t) (AllHaveOperands (works trees popped.tasks.items) one_end) (length popped.values.items)
   enough_for t is =
       let at : length before.values.items ≡ length popped.values.items = sym (ap length values) in
-      let whole = subst (λ ws. AllSuffice ws one_end (length before.values.items)) (works_before t is) state.enough in
-      subst (λ n. Suffices (work_of trees t) (AllSuffice (works trees popped.tasks.items) one_end) n) at
-      (subst (λ (go : ℕ → Type 0). go (length before.values.items)) (AllSuffice-append (works trees popped.tasks.items) (work_of trees t ∷ []) one_end) whole)
+      let whole = subst (λ ws. AllHaveOperands ws one_end (length before.values.items)) (works_before t is) state.enough in
+      subst (λ n. HasOperands (work_of trees t) (AllHaveOperands (works trees popped.tasks.items) one_end) n) at
+      (subst (λ (go : ℕ → Type 0). go (length before.values.items)) (AllHaveOperands-append (works trees popped.tasks.items) (work_of trees t ∷ []) one_end) whole)
 
-  popped_state : (t : Task) (n : ℕ) → before.tasks.items ≡ popped.tasks.items ++ t ∷ [] → AllSuffice (works trees popped.tasks.items) one_end n → IsState trees popped n
+  popped_state : (t : Task) (n : ℕ) → before.tasks.items ≡ popped.tasks.items ++ t ∷ [] → AllHaveOperands (works trees popped.tasks.items) one_end n → IsState trees popped n
   popped_state t n is enough =
       let pairs : popped.left.pairs ≡ before.left.pairs = ap (λ (l : Fuel). l.pairs) left in
       let bytes : popped.left.bytes ≡ before.left.bytes = ap (λ (l : Fuel). l.bytes) left in
@@ -344,7 +344,7 @@ module _ (trees : List Tree) (before popped : Pending) (state : IsState trees be
   pub next_awaits : (t : Task) → before.tasks.items ≡ popped.tasks.items ++ t ∷ [] → Awaits trees popped (taken_by t)
   next_awaits (task.Evaluate e) is =
       let n : suc (length popped.values.items) ≡ suc (length popped.values.items - 0) = omega arith in
-      record { state = popped_state (task.Evaluate e) (suc (length popped.values.items - 0)) is (subst (AllSuffice (works trees popped.tasks.items) one_end) n (enough_for (task.Evaluate e) is)); there = omega arith }
+      record { state = popped_state (task.Evaluate e) (suc (length popped.values.items - 0)) is (subst (AllHaveOperands (works trees popped.tasks.items) one_end) n (enough_for (task.Evaluate e) is)); there = omega arith }
   next_awaits (task.Apply k) is =
       let h = enough_for (task.Apply k) is in
       record { state = popped_state (task.Apply k) (suc (length popped.values.items - k.count)) is h.1; there = h.0 }
@@ -376,7 +376,7 @@ no_items [] e = refl
 no_items (t ∷ tasks) e = absurd (omega arith)
 
 pub one_value : (trees : List Tree) (pending : Pending) → IsState trees pending (length pending.values.items) → length pending.tasks.items ≡ 0 → length pending.values.items ≡ 1
-one_value trees pending state none = subst (λ ts. AllSuffice (works trees ts) (λ n. n ≡ 1) (length pending.values.items)) (no_items pending.tasks.items none) state.enough
+one_value trees pending state none = subst (λ ts. AllHaveOperands (works trees ts) (λ n. n ≡ 1) (length pending.values.items)) (no_items pending.tasks.items none) state.enough
 
 its_value : (trees : List Tree) (values : List Node) (value : Node) (left : Fuel) → length values ≡ 1 → value ≡ get_or values 0 value → AreKnown trees values → IsKnown trees value.0 × (ends (newest_first trees values) left ≡ Done (tree_at trees value.0) left)
 its_value trees [] value left e is known = absurd (omega arith)

@@ -6,7 +6,6 @@ use Rattle.std.proofs.lemmas.Int.Digits.{number_more, number_push}
 use Rattle.std.proofs.Math.Nat.{pow-suc, mul_comm, mul_assoc, mul-le-mul_left}
 use Rattle.clvm_spec.specs.Tree.{Tree, Atom, Pair, nil}
 use Rattle.clvm_spec.specs.Numbers.{unsigned}
-use Rattle.clvm_tree.specs.Nodes.{IsAtom}
 use Rattle.clvm_spec.specs.Path.{PathValue, Reached, Astray, side, stepped, followed, path_value, leading_zeros}
 
 leb_two : (n : ℕ) → 1 < n → leb n 1 ≡ false
@@ -144,17 +143,16 @@ path_value-none path env none = cond-true (eqb (unsigned path) 0) _ _ (eq-eqb (u
 
 -- ---- one bit more
 
-pub astray_at_atom : (bound bits steps : ℕ) (tree : Tree) → IsAtom tree → 1 < bits → bits < 2 ^ bound → followed bound bits steps tree ≡ Astray
-astray_at_atom zero bits steps tree atom some below = absurd (omega arith)
-astray_at_atom (suc bound) bits steps tree atom some below =
-    followed-step bound bits steps tree some ∙ ap (stepped (followed bound (bits / 2) (suc steps)) (bits % 2)) atom.is
+pub no_bit_on : (bound bits steps : ℕ) (tree : Tree) → ((go : Tree → PathValue) → stepped go (bits % 2) tree ≡ Astray) → 1 < bits → bits < 2 ^ bound → followed bound bits steps tree ≡ Astray
+no_bit_on zero bits steps tree none some below = absurd (omega arith)
+no_bit_on (suc bound) bits steps tree none some below = followed-step bound bits steps tree some ∙ none (followed bound (bits / 2) (suc steps))
 
-pub one_bit_on : (bound bits steps : ℕ) (tree first rest : Tree) → tree ≡ Pair first rest → 1 < bits → bits < 2 ^ bound →
-    (less : ℕ) × (bits / 2 < 2 ^ less) × (followed bound bits steps tree ≡ followed less (bits / 2) (suc steps) (side (bits % 2) first rest))
-one_bit_on zero bits steps tree first rest pair some below = absurd (omega arith)
-one_bit_on (suc bound) bits steps tree first rest pair some below =
+pub one_bit_on : (bound bits steps : ℕ) (tree next : Tree) → ((go : Tree → PathValue) → stepped go (bits % 2) tree ≡ go next) → 1 < bits → bits < 2 ^ bound →
+    (less : ℕ) × (bits / 2 < 2 ^ less) × (followed bound bits steps tree ≡ followed less (bits / 2) (suc steps) next)
+one_bit_on zero bits steps tree next leads some below = absurd (omega arith)
+one_bit_on (suc bound) bits steps tree next leads some below =
     let power : 2 ^ suc bound ≡ 2 ^ bound * 2 = pow-suc 2 bound in
-    (bound, omega arith, followed-step bound bits steps tree some ∙ ap (stepped (followed bound (bits / 2) (suc steps)) (bits % 2)) pair)
+    (bound, omega arith, followed-step bound bits steps tree some ∙ leads (followed bound (bits / 2) (suc steps)))
 
 pub on_option : {X : Type 0} (o : Option X) (A A' : Type 0) (B B' : X → Type 0) → (A → A') → ((x : X) → B x → B' x) → MatchOption o A B → MatchOption o A' B'
 on_option None A A' B B' f g h = f h

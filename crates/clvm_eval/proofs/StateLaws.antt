@@ -17,9 +17,9 @@ use Rattle.clvm_eval.specs.declared.pending.Task.{Task}
 use Rattle.clvm_eval.specs.declared.pending.Task.TheVariants as task
 use Rattle.clvm_eval.specs.declared.pending.Pending.{Pending}
 use Rattle.clvm_eval.specs.Runs.{IsRunFault}
-use Rattle.clvm_eval.specs.PendingWork.{Evaluate, Operate, worked_off, ends, AllSuffice}
+use Rattle.clvm_eval.specs.PendingWork.{Evaluate, Operate, worked_off, ends, AllHaveOperands}
 use Rattle.clvm_eval.specs.Steps.{work_of, works, newest_first, IsTask, AreTasks, IsState, Awaits, goes_with, Advances, Puts, IsUnpaid}
-use Rattle.clvm_eval.proofs.WorkLaws.{charge-paid, charge-short}
+use Rattle.clvm_eval.proofs.WorkLaws.{charge-paid, charge-short, paid-enough}
 
 -- ---- more trees
 
@@ -131,8 +131,8 @@ module _ (old new : List Tree) (before after : Pending) (taken : ℕ) (awaits : 
       let state : IsState new after (length after.values.items) = record {
         tasks = subst (AreTasks new) (sym tasks) (AreTasks-grows old new before.tasks.items grows awaits.state.tasks);
         values = subst (AreKnown new) (sym values) (AreKnown-push new kept value (AreKnown-grows old new kept grows values_known) known);
-        enough = subst (AllSuffice (works new after.tasks.items) (λ n. n ≡ 1)) count
-            (subst (λ ws. AllSuffice ws (λ n. n ≡ 1) (suc (length before.values.items - taken))) (sym (works_same tasks)) awaits.state.enough);
+        enough = subst (AllHaveOperands (works new after.tasks.items) (λ n. n ≡ 1)) count
+            (subst (λ ws. AllHaveOperands ws (λ n. n ≡ 1) (suc (length before.values.items - taken))) (sym (works_same tasks)) awaits.state.enough);
         room = omega arith;
         shallow = omega arith;
       } in
@@ -151,7 +151,7 @@ module _ (trees : List Tree) (before after : Pending) (value : Node) (cost : ℕ
   puts_value : Puts value cost before after → Advances trees trees before after 0 part
   puts_value puts =
       let paid = puts.paid in
-      let enough = paid.enough in
+      let enough = paid-enough cost before.left after.left paid in
       let left = paid.is in
       let costs : after.left.cost ≡ before.left.cost - cost = ap (λ (l : Fuel). l.cost) left in
       let pairs : after.left.pairs ≡ before.left.pairs = ap (λ (l : Fuel). l.pairs) left in

@@ -1,6 +1,6 @@
 -- Laws of pending work, on trees.
-use Rattle.std.proofs.Common.{◌≡◌, ℕ, suc, ◌+◌, ◌<◌, ◌≤◌, true, false, ltb, List, [], ◌∷◌, ◌++◌, length, drop, refl, sym, ◌∙◌, ap, arith}
-use Rattle.std.proofs.lemmas.Bool.{cond-true, cond-false, lt-ltb, le-ltb}
+use Rattle.std.proofs.Common.{◌≡◌, ℕ, suc, ◌+◌, ◌≤◌, true, false, List, [], ◌∷◌, ◌++◌, length, drop, refl, sym, ◌∙◌, ap, arith}
+use Rattle.std.proofs.lemmas.Bool.{cond-true, cond-false, ltb-false}
 use Rattle.std.proofs.lemmas.List.{take_at, drop_at}
 use Rattle.clvm_spec.specs.declared.fuel.Fuel.{Fuel}
 use Rattle.clvm_spec.specs.declared.fuel.Which.TheVariants.{Cost, Depth}
@@ -8,27 +8,30 @@ use Rattle.clvm_spec.specs.Tree.{Tree, Atom, Pair}
 use Rattle.clvm_spec.specs.ProperList.{elements}
 use Rattle.clvm_spec.specs.Path.{path_value}
 use Rattle.clvm_spec.specs.Outcomes.{NoOperator, Outcome, Done, Failed, Spent, Wide}
-use Rattle.clvm_spec.specs.Evaluation.{if_done, charge, is_byte, is_code, at_path, goes_on, in_form, apply_values, values_of, deeper, operator_form, atom_form, evaluation}
+use Rattle.clvm_spec.specs.Evaluation.{if_done, charge, is_byte, is_code, at_path, goes_on, in_form, apply_values, values_of, is_too_deep, deeper, operator_form, atom_form, evaluation}
+use Rattle.clvm_spec.specs.OperatorTable.{quote_code, apply_code}
+use Rattle.clvm_spec.specs.Spending.{exceeds}
 use Rattle.clvm_spec.proofs.Steps.{one_step_law}
 use Rattle.clvm_tree.specs.Operators.{outcome_by}
-use Rattle.clvm_eval.specs.PendingWork.{Work, Evaluate, Operate, Going, operated, done_by, worked_off, operand_work, Suffices, AllSuffice}
+use Rattle.clvm_eval.specs.PendingWork.{Work, Evaluate, Operate, Going, operated, done_by, worked_off, operand_work, HasOperands, AllHaveOperands}
 use Rattle.clvm_eval.specs.Steps.{Pays}
 
 -- ---- paying
 
 pub charge-paid : (cost : ℕ) (old new : Fuel) (go : Fuel → Outcome) → Pays cost old new → charge cost old go ≡ go new
-charge-paid cost old new go paid = cond-false (ltb old.cost cost) _ _ (le-ltb old.cost cost paid.enough) ∙ ap go (sym paid.is)
+charge-paid cost old new go paid = cond-false (exceeds cost old.cost) _ _ paid.enough ∙ ap go (sym paid.is)
 
-pub charge-short : (cost : ℕ) (old : Fuel) (go : Fuel → Outcome) → old.cost < cost → charge cost old go ≡ Spent Cost
-charge-short cost old go short = cond-true (ltb old.cost cost) _ _ (lt-ltb old.cost cost short)
+pub charge-short : (cost : ℕ) (old : Fuel) (go : Fuel → Outcome) → exceeds cost old.cost ≡ true → charge cost old go ≡ Spent Cost
+charge-short cost old go short = cond-true (exceeds cost old.cost) _ _ short
 
-pub deeper-within : (operands : List Tree) (depth : ℕ) (left : Fuel) (go : Fuel → Outcome) → (0 < length operands → depth < left.depth) → deeper operands depth left go ≡ go left
-deeper-within [] depth left go h = refl
-deeper-within (operand ∷ operands) depth left go h = cond-true (ltb depth left.depth) _ _ (lt-ltb depth left.depth (h (omega arith)))
+pub paid-enough : (cost : ℕ) (old new : Fuel) → Pays cost old new → cost ≤ old.cost
+paid-enough cost old new paid = ltb-false old.cost cost paid.enough
 
-pub deeper-spent : (operands : List Tree) (depth : ℕ) (left : Fuel) (go : Fuel → Outcome) → 0 < length operands → left.depth ≤ depth → deeper operands depth left go ≡ Spent Depth
-deeper-spent [] depth left go some h = absurd (omega arith)
-deeper-spent (operand ∷ operands) depth left go some h = cond-false (ltb depth left.depth) _ _ (le-ltb depth left.depth h)
+pub deeper-within : (operands : List Tree) (depth : ℕ) (left : Fuel) (go : Fuel → Outcome) → is_too_deep (length operands) depth left.depth ≡ false → deeper operands depth left go ≡ go left
+deeper-within operands depth left go within = cond-false (is_too_deep (length operands) depth left.depth) _ _ within
+
+pub deeper-spent : (operands : List Tree) (depth : ℕ) (left : Fuel) (go : Fuel → Outcome) → is_too_deep (length operands) depth left.depth ≡ true → deeper operands depth left go ≡ Spent Depth
+deeper-spent operands depth left go deep = cond-true (is_too_deep (length operands) depth left.depth) _ _ deep
 
 -- ---- one after another
 
@@ -57,15 +60,15 @@ pub worked_off-append : (a b : List Work) (go : Going) → worked_off (a ++ b) g
 worked_off-append [] b go = refl
 worked_off-append (w ∷ a) b go = worked_off-append a b (done_by w go)
 
-pub AllSuffice-append : (a b : List Work) (go : ℕ → Type 0) → AllSuffice (a ++ b) go ≡ AllSuffice b (AllSuffice a go)
-AllSuffice-append [] b go = refl
-AllSuffice-append (w ∷ a) b go = AllSuffice-append a b (Suffices w go)
+pub AllHaveOperands-append : (a b : List Work) (go : ℕ → Type 0) → AllHaveOperands (a ++ b) go ≡ AllHaveOperands b (AllHaveOperands a go)
+AllHaveOperands-append [] b go = refl
+AllHaveOperands-append (w ∷ a) b go = AllHaveOperands-append a b (HasOperands w go)
 
-pub AllSuffice-operands : (env : Tree) (depth : ℕ) (operands : List Tree) (go : ℕ → Type 0) (count : ℕ) → AllSuffice (operand_work env depth operands) go count ≡ go (length operands + count)
-AllSuffice-operands env depth [] go count = let e : count ≡ 0 + count = omega arith in ap go e
-AllSuffice-operands env depth (o ∷ operands) go count =
+pub AllHaveOperands-operands : (env : Tree) (depth : ℕ) (operands : List Tree) (go : ℕ → Type 0) (count : ℕ) → AllHaveOperands (operand_work env depth operands) go count ≡ go (length operands + count)
+AllHaveOperands-operands env depth [] go count = let e : count ≡ 0 + count = omega arith in ap go e
+AllHaveOperands-operands env depth (o ∷ operands) go count =
     let e : suc (length operands + count) ≡ suc (length operands) + count = omega arith in
-    AllSuffice-operands env depth operands (λ n. go (suc n)) count ∙ ap go e
+    AllHaveOperands-operands env depth operands (λ n. go (suc n)) count ∙ ap go e
 
 -- the operands' values on top of those that were there
 pub worked_off-operands : (env : Tree) (depth : ℕ) (operands : List Tree) (go : Going) (values : List Tree) (left : Fuel) → worked_off (operand_work env depth operands) go values left ≡ values_of (λ operand. evaluation operand env depth) operands left (λ vs after. go (vs ++ values) after)
@@ -89,12 +92,12 @@ worked_off-form code form env depth count operands go values left long =
 
 -- ---- the operator of a code
 
-pub operated-apply : (code form : Tree) (depth : ℕ) (values : List Tree) (left : Fuel) → is_code 2 code ≡ true → operated code form depth values left ≡ goes_on evaluation form depth values left
-operated-apply (Atom code) form depth values left apply = cond-true (is_byte 2 code) _ _ apply
+pub operated-apply : (code form : Tree) (depth : ℕ) (values : List Tree) (left : Fuel) → is_code apply_code code ≡ true → operated code form depth values left ≡ goes_on evaluation form depth values left
+operated-apply (Atom code) form depth values left apply = cond-true (is_byte apply_code code) _ _ apply
 operated-apply (Pair first rest) form depth values left apply = absurd cc
 
-pub operated-other : (code form : Tree) (depth : ℕ) (values : List Tree) (left : Fuel) → is_code 2 code ≡ false → operated code form depth values left ≡ in_form form left (outcome_by code values left)
-operated-other (Atom code) form depth values left other = cond-false (is_byte 2 code) _ _ other
+pub operated-other : (code form : Tree) (depth : ℕ) (values : List Tree) (left : Fuel) → is_code apply_code code ≡ false → operated code form depth values left ≡ in_form form left (outcome_by code values left)
+operated-other (Atom code) form depth values left other = cond-false (is_byte apply_code code) _ _ other
 operated-other (Pair first rest) form depth values left other = refl
 
 -- ---- one step of evaluation
@@ -112,12 +115,12 @@ atom_form_is program env depth left head rest code is atom =
     let whole : program ≡ Pair (Atom code) rest = is ∙ ap (λ h. Pair h rest) atom in
     ap (λ p. evaluation p env depth left) whole ∙ one_step_law (Pair (Atom code) rest) env depth left
 
-pub ev-quote : (program env : Tree) (depth : ℕ) (left : Fuel) (head rest : Tree) (code : List ℕ) → program ≡ Pair head rest → head ≡ Atom code → is_byte 1 code ≡ true → evaluation program env depth left ≡ charge 20 left (Done rest)
+pub ev-quote : (program env : Tree) (depth : ℕ) (left : Fuel) (head rest : Tree) (code : List ℕ) → program ≡ Pair head rest → head ≡ Atom code → is_byte quote_code code ≡ true → evaluation program env depth left ≡ charge 20 left (Done rest)
 ev-quote program env depth left head rest code is atom quote =
-    atom_form_is program env depth left head rest code is atom ∙ cond-true (is_byte 1 code) _ _ quote
+    atom_form_is program env depth left head rest code is atom ∙ cond-true (is_byte quote_code code) _ _ quote
 
-pub ev-form : (program env : Tree) (depth : ℕ) (left : Fuel) (head rest : Tree) (code : List ℕ) → program ≡ Pair head rest → head ≡ Atom code → is_byte 1 code ≡ false → evaluation program env depth left ≡ operator_form evaluation code program env depth (elements rest) left
+pub ev-form : (program env : Tree) (depth : ℕ) (left : Fuel) (head rest : Tree) (code : List ℕ) → program ≡ Pair head rest → head ≡ Atom code → is_byte quote_code code ≡ false → evaluation program env depth left ≡ operator_form evaluation code program env depth (elements rest) left
 ev-form program env depth left head rest code is atom other =
     let whole : program ≡ Pair (Atom code) rest = is ∙ ap (λ h. Pair h rest) atom in
-    atom_form_is program env depth left head rest code is atom ∙ cond-false (is_byte 1 code) _ _ other
+    atom_form_is program env depth left head rest code is atom ∙ cond-false (is_byte quote_code code) _ _ other
     ∙ ap (λ p. operator_form evaluation code p env depth (elements rest) left) (sym whole)

@@ -1,19 +1,20 @@
 -- Where the bits of a path lead, on nodes. This project's own.
 use Rattle.std.specs.Prelude.{◌≡◌, ℕ, ◌+◌, ◌<◌, ◌≤◌, ◌^◌, List}
-use Rattle.clvm_spec.specs.Tree.{Tree, Pair}
-use Rattle.clvm_spec.specs.Path.{Reached, Astray, side, followed, path_value}
+use Rattle.clvm_spec.specs.Tree.{Tree}
+use Rattle.clvm_spec.specs.Path.{PathValue, Reached, Astray, stepped, followed, path_value}
 use Rattle.clvm_tree.specs.Nodes.{tree_at, IsKnown}
 use Rattle.clvm_eval.specs.declared.path.Place.{Place}
 
--- One step leads from a pair to one of its parts.
+-- One step leads from one place to another, whatever is done there.
 pub record IsStep (trees : List Tree) (from : Place) (bit : ℕ) (to : Place) : Type 0 where
   pub known : IsKnown trees to.node.0
   pub earlier : to.node.0 < from.node.0
-  pub first : Tree
-  pub rest : Tree
-  pub pair : tree_at trees from.node.0 ≡ Pair first rest
-  pub stands : tree_at trees to.node.0 ≡ side bit first rest
+  pub leads : (go : Tree → PathValue) → stepped go bit (tree_at trees from.node.0) ≡ go (tree_at trees to.node.0)
   pub steps : to.steps ≡ from.steps + 1
+
+-- No step leads on from there.
+abbrev pub IsNoStep : List Tree → Place → ℕ → Type 0
+IsNoStep trees from bit = (go : Tree → PathValue) → stepped go bit (tree_at trees from.node.0) ≡ Astray
 
 -- From one place the bits lead to another.
 pub record IsFollowed (trees : List Tree) (from : Place) (bits : ℕ) (to : Place) : Type 0 where

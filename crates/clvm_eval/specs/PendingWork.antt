@@ -39,12 +39,12 @@ ends (value ∷ values) left = Done value left
 abbrev pub operand_work : Tree → ℕ → List Tree → List Work
 operand_work env depth operands = map (λ operand. Evaluate operand env depth) operands
 
--- The values suffice for a piece of work, and for what goes on.
-abbrev pub Suffices : Work → (ℕ → Type 0) → ℕ → Type 0
-Suffices (Evaluate program env depth) go count = go (suc count)
-Suffices (Operate code form depth taken) go count = (taken ≤ count) × go (suc (count - taken))
+-- Among so many values are the operands of a piece of work, and what goes on has its own.
+abbrev pub HasOperands : Work → (ℕ → Type 0) → ℕ → Type 0
+HasOperands (Evaluate program env depth) go count = go (suc count)
+HasOperands (Operate code form depth taken) go count = (taken ≤ count) × go (suc (count - taken))
 
--- So many values suffice for all the work, and one is there at the end.
-abbrev pub AllSuffice : List Work → (ℕ → Type 0) → ℕ → Type 0
-AllSuffice [] go = go
-AllSuffice (work ∷ above) go = AllSuffice above (Suffices work go)
+-- So many values give each piece of work its operands, and what goes on then has its own.
+abbrev pub AllHaveOperands : List Work → (ℕ → Type 0) → ℕ → Type 0
+AllHaveOperands [] go = go
+AllHaveOperands (work ∷ above) go = AllHaveOperands above (HasOperands work go)

@@ -1,12 +1,13 @@
 -- How a step of a run changes what is pending. This project's own.
-use Rattle.std.specs.Prelude.{◌≡◌, ℕ, suc, ◌+◌, ◌-◌, ◌<◌, ◌≤◌, ◌^◌, false, Some, Result, MatchResult, List, [], ◌∷◌, ◌++◌, length, map, reverse, take, drop}
+use Rattle.std.specs.Prelude.{◌≡◌, ℕ, suc, ◌+◌, ◌-◌, ◌<◌, ◌≤◌, ◌^◌, true, false, Some, Result, MatchResult, List, [], ◌∷◌, ◌++◌, length, map, reverse, take, drop}
 use Rattle.clvm_spec.specs.declared.fuel.Fuel.{Fuel}
 use Rattle.clvm_spec.specs.declared.fuel.Which.TheVariants.{Cost}
 use Rattle.clvm_spec.specs.Tree.{Tree, Atom}
 use Rattle.clvm_spec.specs.ProperList.{elements}
 use Rattle.clvm_spec.specs.Outcomes.{Outcome}
-use Rattle.clvm_spec.specs.Evaluation.{if_done, is_byte, evaluation}
-use Rattle.clvm_spec.specs.Spending.{fuel_less, paid}
+use Rattle.clvm_spec.specs.Evaluation.{if_done, is_byte, evaluation, most_depth}
+use Rattle.clvm_spec.specs.OperatorTable.{quote_code}
+use Rattle.clvm_spec.specs.Spending.{exceeds, fuel_less, paid}
 use Rattle.clvm_tree.specs.Nodes.{tree_at, IsKnown, AreKnown, HasParts}
 use Rattle.clvm_tree.specs.Operators.{trees_at, spending_of}
 use Rattle.clvm_tree.specs.declared.Node.{Node}
@@ -19,7 +20,7 @@ use Rattle.clvm_eval.specs.declared.pending.Task.{Task}
 use Rattle.clvm_eval.specs.declared.pending.Task.TheVariants as task
 use Rattle.clvm_eval.specs.declared.pending.Pending.{Pending}
 use Rattle.clvm_eval.specs.Runs.{IsRunFault}
-use Rattle.clvm_eval.specs.PendingWork.{Work, Evaluate, Operate, operated, worked_off, ends, operand_work, AllSuffice}
+use Rattle.clvm_eval.specs.PendingWork.{Work, Evaluate, Operate, operated, worked_off, ends, operand_work, AllHaveOperands}
 
 -- ---- what stands for what
 
@@ -42,12 +43,12 @@ pending_outcome trees pending = worked_off (works trees pending.tasks.items) end
 pub record IsExpression (trees : List Tree) (e : Expression) : Type 0 where
   pub program : IsKnown trees e.program.0
   pub env : IsKnown trees e.env.0
-  pub shallow : e.depth ≤ 2 ^ 20
+  pub shallow : e.depth ≤ most_depth
 
 pub record IsCall (trees : List Tree) (call : Call) : Type 0 where
   pub code : IsKnown trees call.code.0
   pub form : IsKnown trees call.form.0
-  pub shallow : call.depth ≤ 2 ^ 20
+  pub shallow : call.depth ≤ most_depth
   pub few : call.count ≤ length trees
 
 abbrev pub IsTask : List Tree → Task → Type 0
@@ -62,9 +63,9 @@ AreTasks trees (t ∷ tasks) = IsTask trees t × AreTasks trees tasks
 pub record IsState (trees : List Tree) (pending : Pending) (count : ℕ) : Type 0 where
   pub tasks : AreTasks trees pending.tasks.items
   pub values : AreKnown trees pending.values.items
-  pub enough : AllSuffice (works trees pending.tasks.items) (λ n. n ≡ 1) count
+  pub enough : AllHaveOperands (works trees pending.tasks.items) (λ n. n ≡ 1) count
   pub room : length trees + pending.left.pairs + pending.left.bytes < 2 ^ 30
-  pub shallow : pending.left.depth ≤ 2 ^ 20
+  pub shallow : pending.left.depth ≤ most_depth
 
 -- The tasks await one value more, once so many values are taken away.
 pub record Awaits (trees : List Tree) (pending : Pending) (taken : ℕ) : Type 0 where
@@ -107,7 +108,7 @@ StepsTo trees before after taken part result = MatchResult result (λ _. Advance
 -- ---- small steps
 
 pub record Pays (cost : ℕ) (old new : Fuel) : Type 0 where
-  pub enough : cost ≤ old.cost
+  pub enough : exceeds cost old.cost ≡ false
   pub is : new ≡ paid cost old
 
 -- A value is paid and put on top.
@@ -119,21 +120,16 @@ pub record Puts (value : Node) (cost : ℕ) (old new : Pending) : Type 0 where
 -- The cost doesn't suffice, or there is no memory.
 abbrev pub IsUnpaid : ℕ → Fuel → RunFault → Type 0
 IsUnpaid cost left (fault.Failed why form) = ⊥
-IsUnpaid cost left (fault.Spent which) = (which ≡ Cost) × (left.cost < cost)
+IsUnpaid cost left (fault.Spent which) = (which ≡ Cost) × (exceeds cost left.cost ≡ true)
 IsUnpaid cost left fault.Wide = ⊥
 IsUnpaid cost left fault.OutOfMemory = Unit {0}
-
--- No operand may stand one deeper.
-pub record IsTooDeep (count depth limit : ℕ) : Type 0 where
-  pub some : 0 < count
-  pub deep : limit ≤ depth
 
 -- The node is an operator form with this code and these operands.
 pub record IsForm (trees : List Tree) (form code operands : ℕ) : Type 0 where
   pub parts : HasParts trees form code operands
   pub bytes : List ℕ
   pub is_atom : tree_at trees code ≡ Atom bytes
-  pub no_quote : is_byte 1 bytes ≡ false
+  pub no_quote : is_byte quote_code bytes ≡ false
 
 -- The node is a list of so many elements.
 pub record HasElements (trees : List Tree) (list count : ℕ) : Type 0 where

@@ -5,6 +5,7 @@ ghost use Rattle.clvm_spec.specs.declared.fuel.Fuel.{Fuel};
 ghost use Rattle.clvm_spec.specs.Tree.{Tree};
 ghost use Rattle.clvm_spec.specs.Outcomes.{WithinFuel};
 ghost use Rattle.clvm_spec.specs.Evaluation.{in_form, is_code};
+ghost use Rattle.clvm_spec.specs.OperatorTable.{apply_code};
 ghost use Rattle.clvm_tree.specs.Nodes.{tree_at, IsKnown, Grows};
 ghost use Rattle.clvm_tree.specs.Operators.{IsWithin, IsOpFault};
 ghost use Rattle.clvm_eval.specs.Runs.{IsRunFault};
@@ -20,7 +21,7 @@ use std::alloc::Global;
 /// Whether the code is that of `a`, which goes on with its operands.
 pub(crate) fn is_apply(trees: &Trees, code: Node) -> bool
     requires { IsKnown trees.now code.0 }
-    ensures { result ≡ is_code 2 (tree_at trees.now code.0) }
+    ensures { result ≡ is_code apply_code (tree_at trees.now code.0) }
 {
     match trees.look(code) {
         Sight::Bytes(bytes) => is_byte(2, bytes),
@@ -59,7 +60,7 @@ impl Pending {
     pub(crate) fn go_on(&mut self, trees: &Trees, call: Call) -> Result<(), RunFault>
         requires awaits { Awaits trees.now self.old call.count }
         requires known { IsCall trees.now call }
-        requires apply { is_code 2 (tree_at trees.now call.code.0) ≡ true }
+        requires apply { is_code apply_code (tree_at trees.now call.code.0) ≡ true }
         ensures { StepsTo trees.now self.old self.new call.count (call_outcome trees.now self.old call) result }
     {
         if call.count != 2 {
@@ -81,6 +82,7 @@ impl Pending {
     }
 
     // Puts the answer in the place of its operands.
+    #[tactic(auto, using(clvm_spec::proofs::SpendingLaws::covers))]
     fn take_answer(&mut self, start: usize, answer: Answer) -> Result<(), RunFault>
         requires within { IsWithin self.old.left answer }
         ensures ok { OnOk result (TakesAnswer start answer self.old self.new) }
@@ -104,7 +106,7 @@ impl Pending {
     ) -> Result<(), RunFault>
         requires awaits { Awaits trees.old self.old call.count }
         requires known { IsCall trees.old call }
-        requires other { is_code 2 (tree_at trees.old call.code.0) ≡ false }
+        requires other { is_code apply_code (tree_at trees.old call.code.0) ≡ false }
         ensures grows { Grows trees.old trees.new }
         ensures ok { OnOk result (Advances trees.old trees.new self.old self.new call.count (call_outcome trees.old self.old call)) }
         ensures few_after_fault { OnErr result (length trees.new ≤ length trees.old + length trees.old + self.old.left.pairs + self.old.left.bytes) }

@@ -1,11 +1,11 @@
 //! A step of evaluation: a path, a quoted value, or the begin of an operator form.
 
-ghost use Rattle.std.specs.Prelude.{◌≡◌, ℕ, ◌+◌, ◌<◌, ◌≤◌, ◌^◌, None, MatchBool, MatchOption, OnOk};
+ghost use Rattle.std.specs.Prelude.{◌≡◌, ℕ, ◌+◌, ◌<◌, ◌≤◌, None, MatchBool, MatchOption, OnOk};
 ghost use Rattle.clvm_spec.specs.Tree.{Atom};
 ghost use Rattle.clvm_spec.specs.ProperList.{elements};
-ghost use Rattle.clvm_spec.specs.Evaluation.{is_byte};
+ghost use Rattle.clvm_spec.specs.Evaluation.{is_byte, is_too_deep, most_depth};
 ghost use Rattle.clvm_tree.specs.Nodes.{tree_at, IsKnown, IsPair, HasParts};
-ghost use Rattle.clvm_eval.specs.Steps.{AreTasks, IsExpression, Awaits, expression_outcome, StepsTo, IsTooDeep, IsForm, HasElements, AddsOperands};
+ghost use Rattle.clvm_eval.specs.Steps.{AreTasks, IsExpression, Awaits, expression_outcome, StepsTo, IsForm, HasElements, AddsOperands};
 
 use crate::path::{cost_of_path, follow};
 use crate::pending::{Call, Expression, Pending, Task, pay};
@@ -55,7 +55,7 @@ fn push_operands(
 ) -> Result<(), OutOfMemory>
     requires list_known { IsKnown trees.now list.0 }
     requires env_known { IsKnown trees.now env.0 }
-    requires shallow { IsPair (tree_at trees.now list.0) → depth ≤ 2 ^ 20 }
+    requires shallow { IsPair (tree_at trees.now list.0) → depth ≤ most_depth }
     requires sound { AreTasks trees.now tasks.old.items }
     ensures { OnOk result (AddsOperands trees.now list.0 (tree_at trees.now env.0) depth tasks.old.items tasks.new.items) }
 {
@@ -71,9 +71,9 @@ fn push_operands(
     Ok(())
 }
 
-// Operands stand one deeper than their form, which can't be at the limit.
+// Operands stand one deeper than their form, so a form that has some can't be at the limit.
 fn is_too_deep(count: u32, depth: u32, limit: u32) -> bool
-    ensures { MatchBool result (IsTooDeep count depth limit) (0 < count → depth < limit) }
+    ensures { result ≡ is_too_deep count depth limit }
 {
     count > 0 && depth >= limit
 }

@@ -1,7 +1,7 @@
 //! A run: tasks are done until there is none.
 
 ghost use Rattle.std.specs.Prelude.{◌≡◌, ℕ, ◌+◌, ◌*◌, ◌<◌, ◌≤◌, ◌^◌, length, IfOk, IfErr, OnOk, OnErr};
-ghost use Rattle.clvm_spec.specs.Evaluation.{run_outcome};
+ghost use Rattle.clvm_spec.specs.Evaluation.{run_outcome, most_pairs, most_bytes, most_depth};
 ghost use Rattle.clvm_tree.specs.Nodes.{tree_at, IsKnown, Grows};
 ghost use Rattle.clvm_eval.specs.Runs.{IsRunDone, IsRunFault};
 ghost use Rattle.clvm_eval.specs.Steps.{IsTask, Awaits, task_outcome, taken_by, Advances};
@@ -53,9 +53,9 @@ pub fn run<O: Operators>(
     requires program_known { IsKnown trees.old program.0 }
     requires env_known { IsKnown trees.old env.0 }
     requires nodes { length trees.old ≤ 2 ^ 29 }
-    requires pairs { fuel.pairs ≤ 16_777_216 }
-    requires bytes { fuel.bytes ≤ 134_217_728 }
-    requires depth { fuel.depth ≤ 1_048_576 }
+    requires pairs { fuel.pairs ≤ most_pairs }
+    requires bytes { fuel.bytes ≤ most_bytes }
+    requires depth { fuel.depth ≤ most_depth }
     ensures grows { Grows trees.old trees.new }
     ensures few { OnOk result (length trees.new ≤ length trees.old + fuel.pairs + fuel.bytes) }
     ensures done { IfOk result (IsRunDone trees.new fuel

@@ -2,8 +2,8 @@
 
 ghost use Rattle.std.specs.Prelude.{◌≡◌, ℕ, ◌+◌, ◌<◌, ◌≤◌, ◌^◌, MatchOption};
 ghost use Rattle.clvm_spec.specs.Path.{Astray, path_value, path_cost};
-ghost use Rattle.clvm_tree.specs.Nodes.{tree_at, IsKnown, IsAtom};
-ghost use Rattle.clvm_eval.specs.Paths.{IsStep, IsFollowed, IsAstray, IsReached};
+ghost use Rattle.clvm_tree.specs.Nodes.{tree_at, IsKnown};
+ghost use Rattle.clvm_eval.specs.Paths.{IsStep, IsNoStep, IsFollowed, IsAstray, IsReached};
 
 use clvm_spec::arithmetic::leading_zero_bytes;
 use clvm_tree::{Node, Trees};
@@ -21,7 +21,7 @@ pub struct Place {
 fn step(trees: &Trees, from: Place, bit: u32) -> Option<Place>
     requires known { IsKnown trees.now from.node.0 }
     requires few { from.node.0 + from.steps < 2 ^ 32 }
-    ensures { MatchOption result (IsAtom (tree_at trees.now from.node.0)) (IsStep trees.now from bit) }
+    ensures { MatchOption result (IsNoStep trees.now from bit) (IsStep trees.now from bit) }
 {
     let (first, rest) = trees.as_pair(from.node)?;
     let steps = from.steps + 1;

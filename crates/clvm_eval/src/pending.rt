@@ -1,6 +1,7 @@
 //! Pending work and the values that are ready for it, and what a task does to them.
 
-ghost use Rattle.std.specs.Prelude.{◌≡◌, ℕ, ◌+◌, ◌-◌, ◌<◌, ◌≤◌, MatchBool, MatchResult};
+ghost use Rattle.std.specs.Prelude.{◌≡◌, ℕ, ◌+◌, ◌-◌, ◌<◌, ◌≤◌, true, MatchBool, MatchResult};
+ghost use Rattle.clvm_spec.specs.Spending.{exceeds};
 ghost use Rattle.clvm_eval.specs.Steps.{Pays, Puts, IsUnpaid};
 
 use crate::RunFault;
@@ -39,7 +40,7 @@ pub(crate) struct Pending {
 
 /// Takes the cost away, unless what is left doesn't suffice.
 pub(crate) fn pay(left: &mut Fuel, cost: u128) -> bool
-    ensures { MatchBool result (Pays cost left.old left.new) (left.old.cost < cost) }
+    ensures { MatchBool result (Pays cost left.old left.new) (exceeds cost left.old.cost ≡ true) }
 {
     if (left.cost as u128) < cost {
         return false;

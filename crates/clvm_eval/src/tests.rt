@@ -1,4 +1,5 @@
 ghost use Rattle.std.specs.Prelude.{◌+◌, ◌≤◌, length, IfOk};
+ghost use Rattle.clvm_spec.specs.Evaluation.{most_pairs, most_bytes, most_depth};
 ghost use Rattle.clvm_tree.specs.Nodes.{IsKnown};
 
 mod paths;
@@ -78,9 +79,9 @@ fn is_spent(which: Which, wanted: Wanted<'_>) -> bool {
 // Whether the run of the first of a pair in the environment that is its rest comes out so.
 fn comes_out(alloc: Global, pair: &[u8], fuel: Fuel, wanted: Wanted<'_>) -> Result<bool, ReadFault>
     requires short { length pair.now ≤ 1000 }
-    requires pairs { fuel.pairs ≤ 16_777_216 }
-    requires bytes { fuel.bytes ≤ 134_217_728 }
-    requires depth { fuel.depth ≤ 1_048_576 }
+    requires pairs { fuel.pairs ≤ most_pairs }
+    requires bytes { fuel.bytes ≤ most_bytes }
+    requires depth { fuel.depth ≤ most_depth }
 {
     let mut trees = Trees::new(alloc);
     let whole = trees.read_whole(alloc, pair)?;

@@ -1,6 +1,7 @@
 //! Runs with just enough of each count of fuel, and with one less.
 
 ghost use Rattle.std.specs.Prelude.{◌≤◌};
+ghost use Rattle.clvm_spec.specs.Evaluation.{most_pairs, most_bytes, most_depth};
 
 use clvm_eval::{Fuel, RunFault, Which, run};
 use clvm_ops::CoreOps;
@@ -10,9 +11,9 @@ use std::test::Fail;
 
 // How the run of a spelled program in nil comes out.
 fn comes_out(alloc: Global, program: &str, fuel: Fuel) -> Result<&'static str, Fail>
-    requires pairs { fuel.pairs ≤ 16_777_216 }
-    requires bytes { fuel.bytes ≤ 134_217_728 }
-    requires depth { fuel.depth ≤ 1_048_576 }
+    requires pairs { fuel.pairs ≤ most_pairs }
+    requires bytes { fuel.bytes ≤ most_bytes }
+    requires depth { fuel.depth ≤ most_depth }
 {
     let bytes = hex::decode(alloc, program)?;
     if bytes.len() > 1_000 {

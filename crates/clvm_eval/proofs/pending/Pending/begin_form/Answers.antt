@@ -1,4 +1,4 @@
-use Rattle.std.proofs.Common.{refl, sym, subst, arith}
+use Rattle.std.proofs.Common.{refl, sym, ◌∙◌, subst, arith}
 use Rattle.clvm_eval.specs.declared.pending.Call.{Call}
 use Rattle.clvm_eval.specs.declared.pending.Task.TheVariants as task
 use Rattle.clvm_eval.specs.Steps.{IsCall, AreTasks}
@@ -19,7 +19,7 @@ returns-then-not-pay c =
 
 pub returns-then-is_too_deep : goal.returns-then-is_too_deep
 returns-then-is_too_deep c =
-    form_too_deep c.args.trees.now c.args.self.now c.args.expression c.args.code.0 c.args.operands.0 c.requires.form c.in-Some.count c.pay.new.left c.in-Some.ensures c.if-not-pay.ensures c.if-is_too_deep.ensures
+    form_too_deep c.args.trees.now c.args.self.now c.args.expression c.args.code.0 c.args.operands.0 c.requires.form c.in-Some.count c.pay.new.left c.in-Some.ensures c.if-not-pay.ensures (sym c.is_too_deep.ensures ∙ c.if-is_too_deep.true)
 
 pub push_operands-requires-clause-sound : goal.push_operands-requires-clause-sound
 push_operands-requires-clause-sound c =
@@ -41,5 +41,5 @@ returns c =
     let parts = c.requires.form.parts in
     let program = c.requires.known.program in
     form_begun c.args.trees.now c.args.self.now _ c.args.expression c.args.code c.args.operands.0 c.in-Some.count c.push.new.self.items
-    c.requires.awaits c.requires.known c.requires.form (omega (arith, parts.first_earlier, program)) (omega (arith, parts.rest_earlier, program)) c.in-Some.ensures c.if-not-pay.ensures c.if-is_too_deep.ensures
+    c.requires.awaits c.requires.known c.requires.form (omega (arith, parts.first_earlier, program)) (omega (arith, parts.rest_earlier, program)) c.in-Some.ensures c.if-not-pay.ensures (sym c.is_too_deep.ensures ∙ c.if-is_too_deep.false)
     c.in_ok-push.ensures.items c.in_ok-push_operands.ensures refl
