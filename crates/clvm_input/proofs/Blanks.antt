@@ -1,19 +1,20 @@
 -- Blanks at the end of a text.
-use Rattle.std.proofs.Common.{◌≡◌, ◌∙◌, ℕ, zero, suc, ◌-◌, ◌≤◌, List, [], ◌∷◌, ◌++◌, length, take, get_or, true, false, refl, ap, sym, arith, if◌then◌else◌}
+use Rattle.std.proofs.Common.{◌≡◌, ◌∙◌, ℕ, zero, suc, ◌-◌, ◌≤◌, List, [], ◌∷◌, ◌++◌, length, take, reverse, get_or, true, false, refl, ap, sym, arith, if◌then◌else◌}
+use Rattle.std.proofs.lemmas.List.{reverse-append, reverse-reverse}
 use Rattle.clvm_spec.specs.Tokens.{is_separator}
-use Rattle.clvm_input.specs.Texts.{unless_blank, without_end_blanks}
+use Rattle.clvm_input.specs.Texts.{without_front_blanks, without_end_blanks}
 
 pub end-blank : (text : List ℕ) (b : ℕ) → is_separator b ≡ true → without_end_blanks (text ++ b ∷ []) ≡ without_end_blanks text
-end-blank [] b blank = ap (λ t. if t then [] else b ∷ []) blank
-end-blank (c ∷ text) b blank = ap (unless_blank c) (end-blank text b blank)
-
-before-another : (c b : ℕ) (text : List ℕ) → unless_blank c (text ++ b ∷ []) ≡ c ∷ (text ++ b ∷ [])
-before-another c b [] = refl
-before-another c b (d ∷ text) = refl
+end-blank text b blank =
+    ap (λ t. reverse (without_front_blanks t)) (reverse-append text (b ∷ []))
+    ∙ ap (λ t. reverse (if t then without_front_blanks (reverse text) else b ∷ reverse text)) blank
 
 pub end-other : (text : List ℕ) (b : ℕ) → is_separator b ≡ false → without_end_blanks (text ++ b ∷ []) ≡ text ++ b ∷ []
-end-other [] b other = ap (λ t. if t then [] else b ∷ []) other
-end-other (c ∷ text) b other = ap (unless_blank c) (end-other text b other) ∙ before-another c b text
+end-other text b other =
+    ap (λ t. reverse (without_front_blanks t)) (reverse-append text (b ∷ []))
+    ∙ ap (λ t. reverse (if t then without_front_blanks (reverse text) else b ∷ reverse text)) other
+    ∙ ap reverse (sym (reverse-append text (b ∷ [])))
+    ∙ reverse-reverse (text ++ b ∷ [])
 
 last-split : (text : List ℕ) (n d : ℕ) → length text ≡ suc n → text ≡ take n text ++ get_or text n d ∷ []
 last-split [] n d e = absurd (omega (arith, e))

@@ -1,7 +1,8 @@
--- What some words stand for, worked out.
+-- What some words and texts stand for, worked out.
 use Rattle.std.proofs.Common.{◌≡◌, [], ◌∷◌, Some, None, refl, codes}
 use Rattle.hex.specs.Hex.{decode_pairs}
 use Rattle.clvm_spec.specs.Reading.{head_at, tree_at_front}
+use Rattle.clvm_input.specs.Texts.{trimmed}
 use Rattle.clvm_input.specs.Words.{word_of}
 
 nil : word_of (codes "80") ≡ Some (0x80 ∷ [])
@@ -43,3 +44,9 @@ cut = refl
 long_spelling : word_of (codes "8101") ≡ None
 unfolding decode_pairs head_at tree_at_front
 long_spelling = refl
+
+blanks_at_both_ends : trimmed (codes "  8 0 ") ≡ codes "8 0"
+blanks_at_both_ends = refl
+
+blanks_alone : trimmed (codes "  ") ≡ []
+blanks_alone = refl

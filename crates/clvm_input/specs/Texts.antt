@@ -1,20 +1,15 @@
 -- The bytes that a CLVM input or a CLVM word stands for: hexadecimal. Source: this project's own.
-use Rattle.std.specs.Prelude.{ℕ, ◌==◌, ◌&&◌, List, [], ◌∷◌, Option, if◌then◌else◌}
+use Rattle.std.specs.Prelude.{ℕ, List, [], ◌∷◌, drop, reverse, Option, if◌then◌else◌}
 use Rattle.std.specs.Result.{result_ok}
 use Rattle.hex.specs.Hex.{decode_of}
-use Rattle.clvm_spec.specs.Tokens.{is_separator}
+use Rattle.clvm_spec.specs.Tokens.{is_separator, has_hex_mark}
 
 abbrev pub without_front_blanks : List ℕ → List ℕ
 without_front_blanks [] = []
 without_front_blanks (b ∷ bytes) = if is_separator b then without_front_blanks bytes else b ∷ bytes
 
-abbrev pub unless_blank : ℕ → List ℕ → List ℕ
-unless_blank b [] = if is_separator b then [] else b ∷ []
-unless_blank b (c ∷ bytes) = b ∷ c ∷ bytes
-
 abbrev pub without_end_blanks : List ℕ → List ℕ
-without_end_blanks [] = []
-without_end_blanks (b ∷ bytes) = unless_blank b (without_end_blanks bytes)
+without_end_blanks text = reverse (without_front_blanks (reverse text))
 
 -- without the blanks at both ends
 abbrev pub trimmed : List ℕ → List ℕ
@@ -22,9 +17,7 @@ trimmed text = without_end_blanks (without_front_blanks text)
 
 -- without an optional `0x` in front
 abbrev pub digits_of : List ℕ → List ℕ
-digits_of [] = []
-digits_of (b ∷ []) = b ∷ []
-digits_of (b ∷ c ∷ text) = if (b == 48) && (c == 120) then text else b ∷ c ∷ text
+digits_of text = if has_hex_mark text then drop 2 text else text
 
 -- the bytes of hexadecimal digits in either case
 abbrev pub bytes_of : List ℕ → Option (List ℕ)

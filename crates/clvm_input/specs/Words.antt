@@ -1,6 +1,6 @@
 -- What a CLVM word is: the hexadecimal of exactly one spelled tree, with no blank around it. Source: this project's own.
-use Rattle.std.specs.Prelude.{ℕ, ◌^◌, List, [], ◌∷◌, length, sum_by, nat_le, Option, Some, None, option_map, option_and_then, if◌then◌else◌}
-use Rattle.clvm_spec.specs.Spelled.{if_spelled}
+use Rattle.std.specs.Prelude.{ℕ, Bool, List, [], ◌∷◌, length, sum_by, nat_le, Option, Some, None, option_map, option_and_then, if◌then◌else◌}
+use Rattle.clvm_spec.specs.Spelled.{most_spelled, if_spelled}
 use Rattle.clvm_input.specs.Texts.{bytes_of}
 
 -- the bytes that a word stands for, where it is a CLVM word
@@ -14,9 +14,12 @@ abbrev pub each_of : List (List ℕ) → Option (List (List ℕ))
 each_of [] = Some []
 each_of (word ∷ words) = option_and_then (λ bytes. option_map (λ later. bytes ∷ later) (each_of words)) (word_of word)
 
--- at most 67,108,864 bytes together
+-- together no more bytes than one may have
+abbrev pub are_few : List (List ℕ) → Bool
+are_few words = nat_le (sum_by length words) most_spelled
+
 abbrev pub if_few : List (List ℕ) → Option (List (List ℕ))
-if_few words = if nat_le (sum_by length words) (2 ^ 26) then Some words else None
+if_few words = if are_few words then Some words else None
 
 -- the same, where they are not too many
 abbrev pub words_of : List (List ℕ) → Option (List (List ℕ))

@@ -1,7 +1,6 @@
 // One spelled tree as hexadecimal.
 ghost use Rattle.std.specs.Prelude.{◌≡◌, ◌+◌, ◌<◌, ◌≤◌, ◌^◌, Some, length};
 ghost use Rattle.clvm_tree.specs.Nodes.{Grows};
-ghost use Rattle.clvm_tree.specs.Reads.{IsWholeFault};
 ghost use Rattle.clvm_input.specs.Inputs.{clvm_input, tree_of_bytes};
 ghost use Rattle.clvm_input.specs.Answers.{IsInput, fault_of};
 

@@ -1,5 +1,5 @@
 // Hexadecimal text.
-ghost use Rattle.std.specs.Prelude.{◌≡◌, ◌*◌, ◌≤◌, length, Option, Some, None, Result, Ok, Err, IfOk, IfErr};
+ghost use Rattle.std.specs.Prelude.{◌≡◌, ◌*◌, ◌≤◌, length, IfOk};
 ghost use Rattle.clvm_spec.specs.Tokens.{is_separator};
 ghost use Rattle.clvm_input.specs.Texts.{without_front_blanks, without_end_blanks, trimmed, digits_of, bytes_of};
 ghost use Rattle.clvm_input.specs.Decoded.{IsDecoded};

@@ -1,7 +1,6 @@
 // A CLVM word: one spelled tree as hexadecimal, with no blank around it.
-ghost use Rattle.std.specs.Prelude.{◌≡◌, ◌+◌, ◌<◌, ◌≤◌, ◌^◌, length, IfOk, IsSome, IsTrue};
-ghost use Rattle.clvm_spec.specs.Reading.{tree_of};
-ghost use Rattle.clvm_spec.specs.Spelled.{if_spelled, spelled_tree};
+ghost use Rattle.std.specs.Prelude.{◌≡◌, ◌+◌, ◌<◌, ◌≤◌, ◌^◌, length, IfOk, IsTrue};
+ghost use Rattle.clvm_spec.specs.Spelled.{is_spelled, if_spelled, spelled_tree};
 ghost use Rattle.clvm_tree.specs.Nodes.{tree_at, IsKnown, Grows};
 ghost use Rattle.clvm_input.specs.Words.{word_of};
 
@@ -32,8 +31,7 @@ impl Word {
     /// The bytes, lent.
     pub fn as_slice(&self) -> &[u8]
         ensures value { result.now ≡ self.now }
-        ensures spelled { IsSome (tree_of self.now) }
-        ensures short { length self.now ≤ 2 ^ 26 }
+        ensures spelled { IsTrue (is_spelled self.now) }
     {
         self.bytes.as_slice()
     }

@@ -1,6 +1,6 @@
 // Several CLVM words.
-ghost use Rattle.std.specs.Prelude.{◌≡◌, ◌≤◌, ◌^◌, length, map, sum_by, IfOk};
-ghost use Rattle.clvm_input.specs.Words.{words_of};
+ghost use Rattle.std.specs.Prelude.{◌≡◌, ◌≤◌, length, map, sum_by, IfOk, IsTrue};
+ghost use Rattle.clvm_input.specs.Words.{are_few, words_of};
 
 use crate::word::{Word, read_word};
 use clvm_tree::OutOfMemory;
@@ -17,14 +17,15 @@ pub struct Words {
 }
 
 impl Model for Words {
-    ghost use Rattle.std.specs.Prelude.{ℕ, ◌≤◌, ◌^◌, List, length, sum_by};
+    ghost use Rattle.std.specs.Prelude.{ℕ, ◌≤◌, List, length, sum_by, IsTrue};
+    ghost use Rattle.clvm_input.specs.Words.{are_few};
 
     ghost Value = { List (List ℕ) };
 
     ghost view = { λ words. words.items.items };
 
     ghost invariant = { λ words.
-        (length words.items.items ≤ sum_by length words.items.items) × (sum_by length words.items.items ≤ 2 ^ 26) };
+        (length words.items.items ≤ sum_by length words.items.items) × IsTrue (are_few words.items.items) };
 }
 
 impl Words {
@@ -32,7 +33,7 @@ impl Words {
     pub fn as_slice(&self) -> &[Word]
         ensures value { result.now ≡ self.now }
         ensures few { length self.now ≤ sum_by length self.now }
-        ensures short { sum_by length self.now ≤ 2 ^ 26 }
+        ensures short { IsTrue (are_few self.now) }
     {
         self.items.as_slice()
     }

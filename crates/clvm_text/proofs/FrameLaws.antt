@@ -1,16 +1,19 @@
 -- What is read in frames.
-use Rattle.std.proofs.Common.{◌≡◌, ℕ, ◌+◌, ◌≤◌, Bool, true, false, cond, List, [], ◌∷◌, ◌++◌, length, drop, None, Some, refl, sym, ◌∙◌, ap, arith}
-use Rattle.std.specs.Option.{unwrap_or}
+use Rattle.std.proofs.Common.{◌≡◌, ℕ, ◌+◌, ◌-◌, ◌≤◌, Bool, true, false, cond, List, [], ◌∷◌, ◌++◌, length, take, drop, slice_index_or, None, refl, sym, ◌∙◌, ap, subst, arith}
+use Rattle.std.specs.Prelude.{Option}
+use Rattle.std.specs.Option.{option_or}
+use Rattle.std.proofs.lemmas.List.{take_rest}
 use Rattle.clvm_spec.specs.declared.scan_kind.ScanKind.{ScanKind}
 use Rattle.clvm_spec.specs.declared.scan_kind.ScanKind.TheVariants as kind
 use Rattle.clvm_spec.specs.Tree.{Tree}
 use Rattle.clvm_spec.specs.Grammar.{Breaks, is_dots_fault, last_form, behind, with_rest, list_from}
-use Rattle.clvm_spec.specs.Text.{Names, ParsedTree, clvm}
+use Rattle.clvm_spec.specs.Text.{Names, ParsedTree, unknown_in, clvm}
 use Rattle.clvm_spec.specs.Text as text
+use Rattle.clvm_tree.specs.declared.Node.{Node}
 use Rattle.clvm_tree.specs.Nodes.{tree_at, Grows}
 use Rattle.clvm_tree.proofs.NodeLaws.{stays, grows_length}
 use Rattle.clvm_text.specs.declared.TextFault.{TextFault}
-use Rattle.clvm_text.specs.declared.TextFault.TheVariants.{Read, Name, Left, OutOfMemory}
+use Rattle.clvm_text.specs.declared.TextFault.TheVariants.{Read, Name}
 use Rattle.clvm_text.specs.declared.frames.Form.{Form}
 use Rattle.clvm_text.specs.declared.frames.Form.TheVariants as form
 use Rattle.clvm_text.specs.declared.frames.Frame.{Frame}
@@ -18,7 +21,7 @@ use Rattle.clvm_text.specs.declared.frames.Frame.TheVariants.{Whole, Inner, Elem
 use Rattle.clvm_text.specs.declared.frames.Mode.{Mode}
 use Rattle.clvm_text.specs.declared.frames.Mode.TheVariants as mode
 use Rattle.clvm_text.specs.Forms.{formed, IsKnownForm, IsFormWithin}
-use Rattle.clvm_text.specs.Frames.{framed, resumed, IsBegun, AreBegun, IsFrameWithin, AreWithin, IsModeWithin, element_of, elements, told_by, fault_behind, fault_in, IsBroken}
+use Rattle.clvm_text.specs.Frames.{framed, resumed, IsBegun, AreBegun, IsFrameWithin, AreWithin, IsModeWithin, waiting_in, waiting, IsFirstFault, Tells, Keeps}
 
 -- ---- forms in trees that grow
 
@@ -92,9 +95,9 @@ mode_later a b (mode.Form depth) le h = tt
 mode_later a b (mode.List depth begun) le h = tt
 mode_later a b (mode.Close last place) le h = (form_later a b last le h.0, omega (arith, le, h.1))
 
-pub elements-push : (frames : List Frame) (frame : Frame) → elements (frames ++ frame ∷ []) ≡ elements frames + element_of frame
-elements-push [] frame = omega arith
-elements-push (f ∷ frames) frame = omega (arith, elements-push frames frame)
+pub waiting-push : (frames : List Frame) (frame : Frame) → waiting (frames ++ frame ∷ []) ≡ waiting frames + waiting_in frame
+waiting-push [] frame = omega arith
+waiting-push (f ∷ frames) frame = omega (arith, waiting-push frames frame)
 
 pub no_frames : (frames : List Frame) → length frames ≡ 0 → frames ≡ []
 no_frames [] e = refl
@@ -102,83 +105,66 @@ no_frames (f ∷ frames) e = absurd (omega (arith, e))
 
 -- ---- faults
 
--- What is told behind an unknown name is a dot's fault exactly where that was wrong.
-record TellsBehind (name : List ℕ) (what : ScanKind) (parsed : ParsedTree) : Type 0 where
+-- What breaks is a dot's fault where this is one.
+record BreaksAs (what : ScanKind) (parsed : ParsedTree) : Type 0 where
   told : ScanKind
+  unknown : Option (List ℕ)
   from : List ℕ
-  is : parsed ≡ Breaks told (Some name) from
-  dots : is_dots_fault told ≡ is_dots_fault what
+  is : parsed ≡ Breaks told unknown from
+  same : is_dots_fault told ≡ is_dots_fault what
 
--- this fault is told where this was wrong
-abbrev Tells : ℕ → List ℕ → ScanKind → TextFault → ParsedTree → Type 0
-Tells limit bytes what (Read told place) parsed = (place ≤ limit) × (parsed ≡ Breaks told None (drop place bytes)) × (is_dots_fault told ≡ is_dots_fault what)
-Tells limit bytes what (Name place) parsed = (place ≤ limit) × TellsBehind (drop place bytes) what parsed
-Tells limit bytes what (Left place) parsed = ⊥
-Tells limit bytes what OutOfMemory parsed = ⊥
+last_broken : (dot : List ℕ) (what : ScanKind) (parsed : ParsedTree) (dots : Bool) → is_dots_fault what ≡ dots → (b : BreaksAs what parsed) → last_form dot parsed ≡ cond dots (Breaks kind.Dot None dot) (Breaks b.told b.unknown b.from)
+last_broken dot what parsed dots e b = ap (last_form dot) b.is ∙ ap (λ t. cond t (Breaks kind.Dot None dot) (Breaks b.told b.unknown b.from)) (b.same ∙ e)
 
--- The frame keeps what breaks.
-abbrev Keeps : (ParsedTree → ParsedTree) → Type 0
-Keeps frame = (what : ScanKind) (unknown : _) (from : List ℕ) → frame (Breaks what unknown from) ≡ Breaks what unknown from
+breaks_last : (dot : List ℕ) (what : ScanKind) (parsed : ParsedTree) (dots : Bool) → is_dots_fault what ≡ dots → BreaksAs what parsed → BreaksAs what (last_form dot parsed)
+breaks_last dot what parsed true e b = record { told = kind.Dot; unknown = None; from = dot; is = last_broken dot what parsed true e b; same = sym e }
+breaks_last dot what parsed false e b = record { told = b.told; unknown = b.unknown; from = b.from; is = last_broken dot what parsed false e b; same = b.same }
 
-tells_kept : (limit : ℕ) (bytes : List ℕ) (what : ScanKind) (fault : TextFault) (parsed : ParsedTree) (frame : ParsedTree → ParsedTree) → Keeps frame → Tells limit bytes what fault parsed → Tells limit bytes what fault (frame parsed)
-tells_kept limit bytes what (Read told place) parsed frame keeps h = (h.0, ap frame h.1 ∙ keeps told None (drop place bytes), h.2)
-tells_kept limit bytes what (Name place) parsed frame keeps h =
-    (h.0, record { told = h.1.told; from = h.1.from; is = ap frame h.1.is ∙ keeps h.1.told (Some (drop place bytes)) h.1.from; dots = h.1.dots })
-tells_kept limit bytes what (Left place) parsed frame keeps h = absurd h
-tells_kept limit bytes what OutOfMemory parsed frame keeps h = absurd h
+breaks_framed : (trees : List Tree) (bytes : List ℕ) (what : ScanKind) (frame : Frame) (parsed : ParsedTree) → BreaksAs what parsed → BreaksAs what (framed trees bytes frame parsed)
+breaks_framed trees bytes what Whole parsed b = b
+breaks_framed trees bytes what (Inner depth) parsed b = record { told = b.told; unknown = b.unknown; from = b.from; is = ap (with_rest clvm (list_from clvm) depth []) b.is; same = b.same }
+breaks_framed trees bytes what (Element first) parsed b =
+    record { told = b.told; unknown = option_or (unknown_in (formed trees bytes first)) b.unknown; from = b.from; is = ap (behind clvm [] (formed trees bytes first)) b.is; same = b.same }
+breaks_framed trees bytes what (Dot place) parsed b = breaks_last (drop place bytes) what parsed (is_dots_fault what) refl b
 
-tells_name : (limit : ℕ) (bytes : List ℕ) (what : ScanKind) (fault : TextFault) (parsed : ParsedTree) (name : ℕ) → name ≤ limit → Tells limit bytes what fault parsed → Tells limit bytes what (Name name) (behind clvm [] (text.Unknown (drop name bytes)) parsed)
-tells_name limit bytes what (Read told place) parsed name le h =
-    (le, record { told = told; from = drop place bytes; is = ap (behind clvm [] (text.Unknown (drop name bytes))) h.1; dots = h.2 })
-tells_name limit bytes what (Name place) parsed name le h =
-    (le, record { told = h.1.told; from = h.1.from; is = ap (behind clvm [] (text.Unknown (drop name bytes))) h.1.is; dots = h.1.dots })
-tells_name limit bytes what (Left place) parsed name le h = absurd h
-tells_name limit bytes what OutOfMemory parsed name le h = absurd h
+breaks : (trees : List Tree) (bytes : List ℕ) (what : ScanKind) (frames : List Frame) (from : List ℕ) → BreaksAs what (resumed trees bytes frames (Breaks what None from))
+breaks trees bytes what [] from = record { told = what; unknown = None; from = from; is = refl; same = refl }
+breaks trees bytes what (f ∷ frames) from = breaks_framed trees bytes what f (resumed trees bytes frames (Breaks what None from)) (breaks trees bytes what frames from)
 
--- behind a dot
-last_broken : (dot : List ℕ) (told what : ScanKind) (unknown : _) (from : List ℕ) (parsed : ParsedTree) (dots : Bool) → parsed ≡ Breaks told unknown from → is_dots_fault told ≡ is_dots_fault what → is_dots_fault what ≡ dots →
-    last_form dot parsed ≡ cond dots (Breaks kind.Dot None dot) (Breaks told unknown from)
-last_broken dot told what unknown from parsed dots is same e = ap (last_form dot) is ∙ ap (λ t. cond t (Breaks kind.Dot None dot) (Breaks told unknown from)) (same ∙ e)
+pub unknown_tells : (place : ℕ) (what : ScanKind) → Tells (Element (form.Unknown place)) what (Name place)
+unknown_tells place what = λ trees bytes above from limit h.
+    let b = breaks trees bytes what above from in (h, record { what = b.told; from = b.from; is = ap (behind clvm [] (text.Unknown (drop place bytes))) b.is })
 
-tells_dot : (limit : ℕ) (bytes : List ℕ) (what : ScanKind) (fault : TextFault) (parsed : ParsedTree) (place : ℕ) (dots : Bool) → is_dots_fault what ≡ dots → place ≤ limit → Tells limit bytes what fault parsed →
-    Tells limit bytes what (unwrap_or (cond dots (Some (Read kind.Dot place)) None) fault) (last_form (drop place bytes) parsed)
-tells_dot limit bytes what (Read told at) parsed place true e le h = (le, last_broken (drop place bytes) told what None (drop at bytes) parsed true h.1 h.2 e, sym e)
-tells_dot limit bytes what (Name at) parsed place true e le h = (le, last_broken (drop place bytes) h.1.told what (Some (drop at bytes)) h.1.from parsed true h.1.is h.1.dots e, sym e)
-tells_dot limit bytes what (Read told at) parsed place false e le h = (h.0, last_broken (drop place bytes) told what None (drop at bytes) parsed false h.1 h.2 e, h.2)
-tells_dot limit bytes what (Name at) parsed place false e le h =
-    (h.0, record { told = h.1.told; from = h.1.from; is = last_broken (drop place bytes) h.1.told what (Some (drop at bytes)) h.1.from parsed false h.1.is h.1.dots e; dots = h.1.dots })
-tells_dot limit bytes what (Left at) parsed place dots e le h = absurd h
-tells_dot limit bytes what OutOfMemory parsed place dots e le h = absurd h
+pub dot_tells : (place : ℕ) (what : ScanKind) → is_dots_fault what ≡ true → Tells (Dot place) what (Read kind.Dot place)
+dot_tells place what e = λ trees bytes above from limit h. (h, last_broken (drop place bytes) what (resumed trees bytes above (Breaks what None from)) true e (breaks trees bytes what above from))
 
-tells_frame : (trees : List Tree) (limit : ℕ) (bytes : List ℕ) (what : ScanKind) (fault : TextFault) (parsed : ParsedTree) (frame : Frame) → IsFrameWithin limit frame → Tells limit bytes what fault parsed →
-    Tells limit bytes what (unwrap_or (told_by frame what) fault) (framed trees bytes frame parsed)
-tells_frame trees limit bytes what fault parsed Whole h t = t
-tells_frame trees limit bytes what fault parsed (Inner depth) h t = tells_kept limit bytes what fault parsed (with_rest clvm (list_from clvm) depth []) (λ told unknown from. refl) t
-tells_frame trees limit bytes what fault parsed (Element (form.Tree node)) h t = tells_kept limit bytes what fault parsed (behind clvm [] (Names (tree_at trees node.0))) (λ told unknown from. refl) t
-tells_frame trees limit bytes what fault parsed (Element (form.Unknown name)) h t = tells_name limit bytes what fault parsed name h t
-tells_frame trees limit bytes what fault parsed (Dot place) h t = tells_dot limit bytes what fault parsed place (is_dots_fault what) refl h t
+pub dot_keeps : (place : ℕ) (what : ScanKind) → is_dots_fault what ≡ false → Keeps (Dot place) what
+dot_keeps place what e = λ trees bytes above from.
+    let b = breaks trees bytes what above from in last_broken (drop place bytes) what (resumed trees bytes above (Breaks what None from)) false e b ∙ sym b.is
 
-tells : (trees : List Tree) (limit : ℕ) (bytes : List ℕ) (what : ScanKind) (place : ℕ) (frames : List Frame) → place ≤ limit → AreWithin limit frames →
-    Tells limit bytes what (fault_behind frames what place) (resumed trees bytes frames (Breaks what None (drop place bytes)))
-tells trees limit bytes what place [] le h = (le, refl, refl)
-tells trees limit bytes what place (f ∷ frames) le h =
-    tells_frame trees limit bytes what (fault_behind frames what place) (resumed trees bytes frames (Breaks what None (drop place bytes))) f h.0 (tells trees limit bytes what place frames le h.1)
+pub inner_keeps : (depth : ℕ) (what : ScanKind) → Keeps (Inner depth) what
+inner_keeps depth what = λ trees bytes above from.
+    let b = breaks trees bytes what above from in ap (with_rest clvm (list_from clvm) depth []) b.is ∙ sym b.is
 
-tells_broken : (limit : ℕ) (bytes : List ℕ) (what : ScanKind) (fault : TextFault) (parsed : ParsedTree) → Tells limit bytes what fault parsed → IsBroken limit bytes fault parsed
-tells_broken limit bytes what (Read told place) parsed h = (h.0, h.1)
-tells_broken limit bytes what (Name place) parsed h = (h.0, record { what = h.1.told; from = h.1.from; is = h.1.is })
-tells_broken limit bytes what (Left place) parsed h = absurd h
-tells_broken limit bytes what OutOfMemory parsed h = tt
+pub tree_keeps : (node : Node) (what : ScanKind) → Keeps (Element (form.Tree node)) what
+tree_keeps node what = λ trees bytes above from.
+    let b = breaks trees bytes what above from in ap (behind clvm [] (Names (tree_at trees node.0))) b.is ∙ sym b.is
 
--- what is read where something is wrong
-abbrev pub refused : List ℕ → Mode → ScanKind → List ℕ → ParsedTree
-refused bytes (mode.Form depth) what from = Breaks what None from
-refused bytes (mode.List depth begun) what from = Breaks what None from
-refused bytes (mode.Close last dot) what from = Breaks kind.Dot None (drop dot bytes)
+-- ---- the outermost frame first
 
--- What is wrong at this place is told behind the frames.
-pub breaks : (trees : List Tree) (bytes : List ℕ) (frames : List Frame) (awaited : Mode) (what : ScanKind) (place : ℕ) → AreWithin place frames → IsModeWithin place awaited →
-    IsBroken place bytes (fault_in frames awaited what place) (resumed trees bytes frames (refused bytes awaited what (drop place bytes)))
-breaks trees bytes frames (mode.Form depth) what place h m = tells_broken place bytes what (fault_behind frames what place) _ (tells trees place bytes what place frames (omega arith) h)
-breaks trees bytes frames (mode.List depth begun) what place h m = tells_broken place bytes what (fault_behind frames what place) _ (tells trees place bytes what place frames (omega arith) h)
-breaks trees bytes frames (mode.Close last dot) what place h m = tells_broken place bytes kind.Dot (fault_behind frames kind.Dot dot) _ (tells trees place bytes kind.Dot dot frames m.1 h)
+abbrev outermost : List Frame → Frame
+outermost rest = slice_index_or rest 0 Whole
+
+pub told_broken : (what : ScanKind) (rest : List Frame) (fault : TextFault) (trees : List Tree) (bytes from : List ℕ) (limit : ℕ) → 1 ≤ length rest → AreWithin limit rest → Tells (outermost rest) what fault →
+    IsFirstFault limit bytes fault (resumed trees bytes rest (Breaks what None from))
+told_broken what [] fault trees bytes from limit some h tells = absurd (omega (arith, some))
+told_broken what (f ∷ above) fault trees bytes from limit some h tells = tells trees bytes above from limit h.0
+
+pub above_within : (limit : ℕ) (rest : List Frame) → 1 ≤ length rest → AreWithin limit rest → AreWithin limit (take (length rest - 1) (drop 1 rest))
+above_within limit [] some h = absurd (omega (arith, some))
+above_within limit (f ∷ above) some h = subst (AreWithin limit) (sym (take_rest (f ∷ above) 1)) h.1
+
+pub above_kept : (what : ScanKind) (rest : List Frame) (trees : List Tree) (bytes from : List ℕ) → 1 ≤ length rest → Keeps (outermost rest) what →
+    resumed trees bytes rest (Breaks what None from) ≡ resumed trees bytes (take (length rest - 1) (drop 1 rest)) (Breaks what None from)
+above_kept what [] trees bytes from some keeps = absurd (omega (arith, some))
+above_kept what (f ∷ above) trees bytes from some keeps = keeps trees bytes above from ∙ ap (λ fs. resumed trees bytes fs (Breaks what None from)) (sym (take_rest (f ∷ above) 1))

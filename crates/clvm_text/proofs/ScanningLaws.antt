@@ -7,7 +7,7 @@ use Rattle.clvm_spec.specs.Tree.{Tree}
 use Rattle.clvm_spec.specs.Places.{place_of}
 use Rattle.clvm_spec.specs.Tokens.{Token, Front, Took, Unread, AtEnd, token_of}
 use Rattle.clvm_spec.specs.Grammar.{Parses}
-use Rattle.clvm_spec.specs.Text.{ParsedTree, form_of, Unreadable, Unnamed, at_last, whole, scanned}
+use Rattle.clvm_spec.specs.Text.{Names, ParsedTree, form_of, Unreadable, Unnamed, at_last, whole, scanned}
 use Rattle.text_tokens.specs.Ends.{IsEnd}
 use Rattle.clvm_tree.specs.Nodes.{tree_at}
 use Rattle.clvm_tree.specs.declared.Node.{Node}
@@ -19,10 +19,10 @@ use Rattle.clvm_text.specs.declared.frames.Frame.{Frame}
 use Rattle.clvm_text.specs.declared.frames.Mode.{Mode}
 use Rattle.clvm_text.specs.declared.frames.Step.TheVariants.{Done, Goes}
 use Rattle.clvm_text.specs.Forms.{formed, IsFormWithin}
-use Rattle.clvm_text.specs.Frames.{told, at_token, fault_in, AreWithin, IsModeWithin, IsBroken, Takes, Stops}
+use Rattle.clvm_text.specs.Frames.{told, at_token, AreWithin, IsModeWithin, IsBroken, IsToldUnread, Takes, Stops}
 use Rattle.clvm_text.specs.Scans.{IsFormAt, IsTextFault}
 use Rattle.clvm_text.proofs.FrameLaws.{form_later}
-use Rattle.clvm_text.proofs.StepLaws.{stops_at, unread, at_end}
+use Rattle.clvm_text.proofs.StepLaws.{stops_at, at_end}
 
 -- ---- one more token
 
@@ -57,13 +57,12 @@ stops_form old text rest from after before awaited token fault end is same s =
     (broken_later (place_of text from) (length text) text fault (told old text before awaited (Took token (drop (place_of text from) text) after)) (omega arith) (s text after))
 
 -- no token can be read
-pub unread_form : (old : List Tree) (text rest from : List ℕ) (frames : List Frame) (awaited : Mode) (what : ScanKind) (fault : TextFault) → IsEnd from text → token_of rest ≡ Unread what from → form_of text ≡ told old text frames awaited (token_of rest) →
-    AreWithin (place_of text from) frames → IsModeWithin (place_of text from) awaited → fault ≡ fault_in frames awaited what (place_of text from) → IsBroken (length text) text fault (form_of text)
-unread_form old text rest from frames awaited what fault end is same dots dot e =
+pub unread_form : (old : List Tree) (text rest from : List ℕ) (lent frames : List Frame) (awaited : Mode) (what : ScanKind) (place : ℕ) (fault : TextFault) → IsEnd from text → token_of rest ≡ Unread what from → form_of text ≡ told old text frames awaited (token_of rest) →
+    AreWithin (place_of text from) frames → IsModeWithin (place_of text from) awaited → lent ≡ frames → place ≡ place_of text from → IsToldUnread lent awaited what place fault → IsBroken (length text) text fault (form_of text)
+unread_form old text rest from lent frames awaited what place fault end is same dots dot e at refuses =
     subst (IsBroken (length text) text fault) (sym (same ∙ ap (told old text frames awaited) is))
     (broken_later (place_of text from) (length text) text fault (told old text frames awaited (Unread what from)) (omega arith)
-    (stops_at old text frames awaited what (place_of text from) fault (at_token old text awaited (Unread what from)) dots dot e
-    (ap (λ f. at_token old text awaited (Unread what f)) end.stands ∙ unread old text awaited what (drop (place_of text from) text))))
+    (stops_at lent frames awaited what (place_of text from) fault e (subst (λ n. IsToldUnread lent awaited what n fault) at refuses) old text (Unread what from) dots dot (ap (λ f. at_token old text awaited (Unread what f)) end.stands)))
 
 past_end : (text : List ℕ) → drop (length text) text ≡ []
 past_end text = empty (drop (length text) text) (omega (arith, length-drop (length text) text))
@@ -73,11 +72,11 @@ past_end text = empty (drop (length text) text) (omega (arith, length-drop (leng
     empty (x ∷ xs) h = absurd (omega (arith, h))
 
 -- the text ends
-pub ended_form : (old : List Tree) (text rest : List ℕ) (frames : List Frame) (awaited : Mode) (fault : TextFault) → token_of rest ≡ AtEnd → form_of text ≡ told old text frames awaited (token_of rest) →
-    AreWithin (length text) frames → IsModeWithin (length text) awaited → fault ≡ fault_in frames awaited kind.End (length text) → IsBroken (length text) text fault (form_of text)
-ended_form old text rest frames awaited fault is same dots dot e =
+pub ended_form : (old : List Tree) (text rest : List ℕ) (lent frames : List Frame) (awaited : Mode) (fault : TextFault) → token_of rest ≡ AtEnd → form_of text ≡ told old text frames awaited (token_of rest) →
+    AreWithin (length text) frames → IsModeWithin (length text) awaited → lent ≡ frames → IsToldUnread lent awaited kind.End (length text) fault → IsBroken (length text) text fault (form_of text)
+ended_form old text rest lent frames awaited fault is same dots dot e refuses =
     subst (IsBroken (length text) text fault) (sym (same ∙ ap (told old text frames awaited) is))
-    (stops_at old text frames awaited kind.End (length text) fault (at_token old text awaited AtEnd) dots dot e (at_end old text awaited (drop (length text) text) (past_end text)))
+    (stops_at lent frames awaited kind.End (length text) fault e refuses old text AtEnd dots dot (at_end old text awaited (drop (length text) text) (past_end text)))
 
 -- ---- the whole text
 
@@ -87,9 +86,9 @@ scanned_is text = refl
 
 -- what stands behind the form
 pub last_is : (trees : List Tree) (bytes text : List ℕ) (whole : Form) (tree : Node) (rest : List ℕ) (front : Front) → bytes ≡ text → IsFormAt trees bytes whole rest → whole ≡ form.Tree tree → token_of rest ≡ front →
-    scanned text ≡ at_last bytes (tree_at trees tree.0) front
+    scanned text ≡ at_last bytes (Names (tree_at trees tree.0)) front
 last_is trees bytes text whole_form tree rest front same found is e =
-    ap scanned (sym same) ∙ scanned_is bytes ∙ ap (whole bytes) (found.found ∙ ap (λ f. Parses (formed trees bytes f) rest) is) ∙ ap (at_last bytes (tree_at trees tree.0)) e
+    ap scanned (sym same) ∙ scanned_is bytes ∙ ap (whole bytes) (found.found ∙ ap (λ f. Parses (formed trees bytes f) rest) is) ∙ ap (at_last bytes (Names (tree_at trees tree.0))) e
 
 place_is : (text : List ℕ) (place : ℕ) → place ≤ length text → place_of text (drop place text) ≡ place
 place_is text place h = omega (arith, h, length-drop place text)

@@ -12,6 +12,7 @@ use Rattle.clvm_spec.specs.Text.{ParsedTree, clvm}
 use Rattle.clvm_spec.proofs.GrammarLaws.{list_step}
 use Rattle.clvm_spec.proofs.FreePlaces.{places_are_free}
 use Rattle.clvm_text.specs.declared.TextFault.{TextFault}
+use Rattle.clvm_text.specs.declared.TextFault.TheVariants.{Read, Name, Left, OutOfMemory}
 use Rattle.clvm_text.specs.declared.frames.Form.{Form}
 use Rattle.clvm_text.specs.declared.frames.Frame.{Frame}
 use Rattle.clvm_text.specs.declared.frames.Frame.TheVariants.{Whole, Inner, Element, Dot}
@@ -23,8 +24,8 @@ use Rattle.clvm_text.specs.declared.frames.Step.{Step}
 use Rattle.clvm_text.specs.declared.frames.Step.TheVariants.{Done, Goes}
 use Rattle.clvm_text.specs.Forms.{formed, IsFormWithin, Makes}
 use Rattle.clvm_text.specs.Leaves.{token_of_leaf, leaf_form}
-use Rattle.clvm_text.specs.Frames.{framed, resumed, at_token, told, IsBegun, AreBegun, IsFrameWithin, AreWithin, IsModeWithin, element_of, fault_in, IsBroken, depth_in, list_frame, begun_in, IsForm, Ends, Leads, Settles, at_form, Places, Takes}
-use Rattle.clvm_text.proofs.FrameLaws.{resumed-push, resumed-grows, refused, breaks}
+use Rattle.clvm_text.specs.Frames.{framed, resumed, at_token, told, IsBegun, AreBegun, IsFrameWithin, AreWithin, IsModeWithin, waiting_in, IsFirstFault, IsBroken, IsToldUnread, depth_in, list_frame, HasLastAt, Ends, Leads, Settles, Places, Takes}
+use Rattle.clvm_text.proofs.FrameLaws.{resumed-push, resumed-grows}
 
 some_same : (a b : ℕ) → Some a ≡ Some b → a ≡ b
 some_same a b e = cc
@@ -55,13 +56,10 @@ opens_list trees text frames (mode.Close last place) depth from rest e h = absur
     none_some : (n : ℕ) → None ≡ Some n → ⊥
     none_some n e = cc
 
-pub takes_dot : (trees : List Tree) (text : List ℕ) (frames : List Frame) (awaited : Mode) (depth place : ℕ) (rest : List ℕ) → begun_in awaited ≡ Some depth →
+pub takes_dot : (trees : List Tree) (text : List ℕ) (frames : List Frame) (awaited : Mode) (depth place : ℕ) (rest : List ℕ) → HasLastAt awaited depth →
     told trees text frames awaited (Took tokens.Point (drop place text) rest) ≡ told trees text (frames ++ Dot place ∷ []) (mode.Form depth) (token_of rest)
-takes_dot trees text frames (mode.Form d) depth place rest e = cc
-takes_dot trees text frames (mode.List d true) depth place rest e =
-    sym (resumed-push trees text frames (Dot place) (form_at clvm (list_from clvm) d (token_of rest))) ∙ ap (λ n. resumed trees text (frames ++ Dot place ∷ []) (form_at clvm (list_from clvm) n (token_of rest))) (some_same d depth e)
-takes_dot trees text frames (mode.List d false) depth place rest e = cc
-takes_dot trees text frames (mode.Close last p) depth place rest e = cc
+takes_dot trees text frames awaited depth place rest last =
+    ap (resumed trees text frames) (last trees text (drop place text) rest) ∙ sym (resumed-push trees text frames (Dot place) (form_at clvm (list_from clvm) depth (token_of rest)))
 
 -- a token that is a form
 read_leaf : (l : Leaf) (depth place : ℕ) (text rest : List ℕ) → form_at clvm (list_from clvm) depth (Took (token_of_leaf l) (drop place text) rest) ≡ Parses (leaf_form place l text) rest
@@ -73,26 +71,32 @@ leaf_in_list (leaf.Literal literal) depth begun from rest = refl
 leaf_in_list (leaf.Symbol name) depth begun from rest = refl
 
 takes_leaf : (trees : List Tree) (text : List ℕ) (awaited : Mode) (l : Leaf) (depth place : ℕ) (rest : List ℕ) → depth_in awaited ≡ Some depth →
-    at_token trees text awaited (Took (token_of_leaf l) (drop place text) rest) ≡ at_form awaited (leaf_form place l text) rest
+    at_token trees text awaited (Took (token_of_leaf l) (drop place text) rest) ≡ framed trees text (list_frame awaited) (Parses (leaf_form place l text) rest)
 takes_leaf trees text (mode.Form d) l depth place rest e = read_leaf l d place text rest
 takes_leaf trees text (mode.List d begun) l depth place rest e = leaf_in_list l d begun (drop place text) rest ∙ ap (with_rest clvm (list_from clvm) d []) (read_leaf l d place text rest)
 takes_leaf trees text (mode.Close last p) l depth place rest e = cc
 
 -- ---- what stops
 
--- The fault of a token at this place, told behind the frames.
-pub stops_at : (trees : List Tree) (text : List ℕ) (frames : List Frame) (awaited : Mode) (what : ScanKind) (place : ℕ) (fault : TextFault) (parsed : ParsedTree) →
-    AreWithin place frames → IsModeWithin place awaited → fault ≡ fault_in frames awaited what place → parsed ≡ refused text awaited what (drop place text) → IsBroken place text fault (resumed trees text frames parsed)
-stops_at trees text frames awaited what place fault parsed within mode_within e p =
-    subst (λ f. IsBroken place text f (resumed trees text frames parsed)) (sym e)
-    (subst (λ q. IsBroken place text (fault_in frames awaited what place) (resumed trees text frames q)) (sym p) (breaks trees text frames awaited what place within mode_within))
+first_broken : (limit : ℕ) (text : List ℕ) (fault : TextFault) (parsed : ParsedTree) → IsFirstFault limit text fault parsed → IsBroken limit text fault parsed
+first_broken limit text (Read what place) parsed h = h
+first_broken limit text (Name place) parsed h = h
+first_broken limit text (Left place) parsed h = h
+first_broken limit text OutOfMemory parsed h = tt
 
-pub no_list : (trees : List Tree) (text : List ℕ) (awaited : Mode) (from rest : List ℕ) → depth_in awaited ≡ None → at_token trees text awaited (Took tokens.Opening from rest) ≡ refused text awaited kind.Dot from
+-- What may not stand at this place is told like what can't be read there.
+pub stops_at : (lent frames : List Frame) (awaited : Mode) (what : ScanKind) (place : ℕ) (fault : TextFault) → lent ≡ frames → IsToldUnread lent awaited what place fault →
+    (trees : List Tree) (text : List ℕ) (front : Front) → AreWithin place frames → IsModeWithin place awaited → at_token trees text awaited front ≡ at_token trees text awaited (Unread what (drop place text)) → IsBroken place text fault (told trees text frames awaited front)
+stops_at lent frames awaited what place fault same refuses trees text front within mode_within is =
+    first_broken place text fault (told trees text frames awaited front)
+    (subst (λ p. IsFirstFault place text fault (resumed trees text frames p)) (sym is) (subst (λ f. IsToldUnread f awaited what place fault) same refuses trees text within mode_within))
+
+pub no_list : (trees : List Tree) (text : List ℕ) (awaited : Mode) (from rest : List ℕ) → depth_in awaited ≡ None → at_token trees text awaited (Took tokens.Opening from rest) ≡ at_token trees text awaited (Unread kind.Dot from)
 no_list trees text (mode.Form d) from rest e = cc
 no_list trees text (mode.List d begun) from rest e = cc
 no_list trees text (mode.Close last place) from rest e = refl
 
-pub no_leaf : (trees : List Tree) (text : List ℕ) (awaited : Mode) (l : Leaf) (from rest : List ℕ) → depth_in awaited ≡ None → at_token trees text awaited (Took (token_of_leaf l) from rest) ≡ refused text awaited kind.Dot from
+pub no_leaf : (trees : List Tree) (text : List ℕ) (awaited : Mode) (l : Leaf) (from rest : List ℕ) → depth_in awaited ≡ None → at_token trees text awaited (Took (token_of_leaf l) from rest) ≡ at_token trees text awaited (Unread kind.Dot from)
 no_leaf trees text (mode.Form d) l from rest e = cc
 no_leaf trees text (mode.List d begun) l from rest e = cc
 no_leaf trees text (mode.Close last place) (leaf.Literal literal) from rest e = refl
@@ -103,28 +107,12 @@ deep_within depth from rest h =
     let full : nat_lt depth 1024 ≡ false = grind (arith, nat_tests) in
     ap (λ t. cond t (list_from clvm (suc depth) from false rest) (Breaks kind.Deep None from)) full
 
-pub too_deep : (trees : List Tree) (text : List ℕ) (awaited : Mode) (depth : ℕ) (from rest : List ℕ) → depth_in awaited ≡ Some depth → 1024 ≤ depth → at_token trees text awaited (Took tokens.Opening from rest) ≡ refused text awaited kind.Deep from
+pub too_deep : (trees : List Tree) (text : List ℕ) (awaited : Mode) (depth : ℕ) (from rest : List ℕ) → depth_in awaited ≡ Some depth → 1024 ≤ depth → at_token trees text awaited (Took tokens.Opening from rest) ≡ at_token trees text awaited (Unread kind.Deep from)
 too_deep trees text (mode.Form d) depth from rest e h = deep_within d from rest (omega (arith, some_same d depth e, h))
 too_deep trees text (mode.List d begun) depth from rest e h = ap (with_rest clvm (list_from clvm) d []) (deep_within d from rest (omega (arith, some_same d depth e, h)))
 too_deep trees text (mode.Close last place) depth from rest e h = cc
 
-pub no_dot : (trees : List Tree) (text : List ℕ) (awaited : Mode) (from rest : List ℕ) → begun_in awaited ≡ None → at_token trees text awaited (Took tokens.Point from rest) ≡ refused text awaited kind.Dot from
-no_dot trees text (mode.Form d) from rest e = refl
-no_dot trees text (mode.List d true) from rest e = cc
-no_dot trees text (mode.List d false) from rest e = refl
-no_dot trees text (mode.Close last place) from rest e = refl
-
-pub no_end : (trees : List Tree) (text : List ℕ) (awaited : Mode) (from rest : List ℕ) → IsForm awaited → at_token trees text awaited (Took tokens.Closing from rest) ≡ refused text awaited kind.Close from
-no_end trees text (mode.Form d) from rest h = refl
-no_end trees text (mode.List d begun) from rest h = absurd h
-no_end trees text (mode.Close last place) from rest h = absurd h
-
-pub unread : (trees : List Tree) (text : List ℕ) (awaited : Mode) (what : ScanKind) (from : List ℕ) → at_token trees text awaited (Unread what from) ≡ refused text awaited what from
-unread trees text (mode.Form d) what from = refl
-unread trees text (mode.List d begun) what from = refl
-unread trees text (mode.Close last place) what from = refl
-
-pub at_end : (trees : List Tree) (text : List ℕ) (awaited : Mode) (from : List ℕ) → from ≡ [] → at_token trees text awaited AtEnd ≡ refused text awaited kind.End from
+pub at_end : (trees : List Tree) (text : List ℕ) (awaited : Mode) (from : List ℕ) → from ≡ [] → at_token trees text awaited AtEnd ≡ at_token trees text awaited (Unread kind.End from)
 at_end trees text (mode.Form d) from e = ap (Breaks kind.End None) (sym e)
 at_end trees text (mode.List d begun) from e = ap (Breaks kind.End None) (sym e)
 at_end trees text (mode.Close last place) from e = refl
@@ -141,17 +129,17 @@ list_within limit (mode.Form d) = tt
 list_within limit (mode.List d begun) = tt
 list_within limit (mode.Close last place) = tt
 
-pub list_element : (awaited : Mode) → element_of (list_frame awaited) ≡ 0
+pub list_element : (awaited : Mode) → waiting_in (list_frame awaited) ≡ 0
 list_element (mode.Form d) = refl
 list_element (mode.List d begun) = refl
 list_element (mode.Close last place) = refl
 
 -- a form in a list is its next element
 pub placed : (trees : List Tree) (text : List ℕ) (frames : List Frame) (awaited : Mode) (d depth : ℕ) (begun : Bool) (form : Form) (rest : List ℕ) → awaited ≡ mode.List d begun → depth_in awaited ≡ Some depth →
-    resumed trees text frames (at_form awaited (formed trees text form) rest) ≡ told trees text (frames ++ Element form ∷ []) (mode.List depth true) (token_of rest)
+    resumed trees text frames (framed trees text (list_frame awaited) (Parses (formed trees text form) rest)) ≡ told trees text (frames ++ Element form ∷ []) (mode.List depth true) (token_of rest)
 placed trees text frames awaited d depth begun form rest is e =
     let same = some_same d depth (sym (ap depth_in is) ∙ e) in
-    ap (λ m. resumed trees text frames (at_form m (formed trees text form) rest)) is
+    ap (λ m. resumed trees text frames (framed trees text (list_frame m) (Parses (formed trees text form) rest))) is
     ∙ ap (λ n. resumed trees text frames (with_rest clvm (list_from clvm) n [] (Parses (formed trees text form) rest))) same
     ∙ ap (λ p. resumed trees text frames (framed trees text (Element form) p)) (list_step clvm depth [] true rest)
     ∙ sym (resumed-push trees text frames (Element form) (list_at clvm (list_from clvm) depth [] true (token_of rest)))
@@ -177,15 +165,22 @@ settles_takes old new before after awaited form place step within mode_within en
     leads_same place (λ text rest. told old text before awaited (Took tokens.Closing (drop place text) rest)) (λ text rest. resumed old text before (Parses (formed old text form) rest)) new after step
     (λ text rest. ap (resumed old text before) (ends.is text (drop place text) rest)) (s place within (ends.within place mode_within))
 
+-- A list that is begun has no trees yet.
+any_trees : (old new : List Tree) (text : List ℕ) (awaited : Mode) (parsed : ParsedTree) → framed old text (list_frame awaited) parsed ≡ framed new text (list_frame awaited) parsed
+any_trees old new text (mode.Form d) parsed = refl
+any_trees old new text (mode.List d begun) parsed = refl
+any_trees old new text (mode.Close last place) parsed = refl
+
 -- what a leaf's token leads to is what its form does
 pub places_takes : (old mid new : List Tree) (before after : List Frame) (awaited : Mode) (l : Leaf) (depth : ℕ) (form : Form) (place : ℕ) (result : Result Step TextFault) → Makes old mid form (leaf_form place l) → IsFormWithin place form → AreBegun old before → AreWithin place before → depth_in awaited ≡ Some depth →
     IfOk result (Places mid before awaited form new after) → IfOk result (Takes old before awaited place (token_of_leaf l) new after)
 places_takes old mid new before after awaited l depth form place (Ok step) makes made_within begun within e p =
-    leads_same place (λ text rest. told old text before awaited (Took (token_of_leaf l) (drop place text) rest)) (λ text rest. resumed mid text before (at_form awaited (formed mid text form) rest)) new after step
+    leads_same place (λ text rest. told old text before awaited (Took (token_of_leaf l) (drop place text) rest)) (λ text rest. resumed mid text before (framed mid text (list_frame awaited) (Parses (formed mid text form) rest))) new after step
     (λ text rest.
     ap (resumed old text before) (takes_leaf old text awaited l depth place rest e)
-    ∙ sym (resumed-grows old mid text before (at_form awaited (leaf_form place l text) rest) makes.grows begun)
-    ∙ ap (λ f. resumed mid text before (at_form awaited f rest)) (sym (makes.stands text)))
+    ∙ ap (resumed old text before) (any_trees old mid text awaited (Parses (leaf_form place l text) rest))
+    ∙ sym (resumed-grows old mid text before (framed mid text (list_frame awaited) (Parses (leaf_form place l text) rest)) makes.grows begun)
+    ∙ ap (λ f. resumed mid text before (framed mid text (list_frame awaited) (Parses f rest))) (sym (makes.stands text)))
     (p place within made_within)
 places_takes old mid new before after awaited l depth form place (Err fault) makes made_within begun within e p = tt
 

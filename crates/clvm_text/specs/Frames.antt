@@ -1,18 +1,15 @@
 -- How a text is read on, where lists are open. This project's own.
-use Rattle.std.specs.Prelude.{◌≡◌, ℕ, ◌+◌, ◌≤◌, List, [], ◌∷◌, drop, if◌then◌else◌, Option, Some, None}
-use Rattle.std.specs.Option.{unwrap_or}
+use Rattle.std.specs.Prelude.{◌≡◌, ℕ, ◌+◌, ◌≤◌, List, [], ◌∷◌, drop, Option, Some, None}
 use Rattle.clvm_spec.specs.declared.scan_kind.ScanKind.{ScanKind}
-use Rattle.clvm_spec.specs.declared.scan_kind.ScanKind.TheVariants as kind
 use Rattle.clvm_spec.specs.Tree.{Tree}
-use Rattle.clvm_spec.specs.Tokens.{Token, Front, Took, token_of}
+use Rattle.clvm_spec.specs.Tokens.{Token, Front, Took, Unread, token_of}
 use Rattle.clvm_spec.specs.Tokens as tokens
-use Rattle.clvm_spec.specs.Grammar.{Parses, Breaks, is_dots_fault, closed, last_form, form_at, behind, with_rest, list_at, list_from}
-use Rattle.clvm_spec.specs.Text.{Named, ParsedTree, clvm}
+use Rattle.clvm_spec.specs.Grammar.{Parses, Breaks, closed, last_form, form_at, behind, with_rest, list_at, list_from}
+use Rattle.clvm_spec.specs.Text.{ParsedTree, clvm}
 use Rattle.clvm_text.specs.Forms.{formed, IsKnownForm, IsFormWithin}
 use Rattle.clvm_text.specs.declared.TextFault.{TextFault}
 use Rattle.clvm_text.specs.declared.TextFault.TheVariants.{Read, Name, Left, OutOfMemory}
 use Rattle.clvm_text.specs.declared.frames.Form.{Form}
-use Rattle.clvm_text.specs.declared.frames.Form.TheVariants as form
 use Rattle.clvm_text.specs.declared.frames.Frame.{Frame}
 use Rattle.clvm_text.specs.declared.frames.Frame.TheVariants.{Whole, Inner, Element, Dot}
 use Rattle.clvm_text.specs.declared.frames.Mode.{Mode}
@@ -74,37 +71,18 @@ IsModeWithin limit (mode.Form depth) = Unit {0}
 IsModeWithin limit (mode.List depth begun) = Unit {0}
 IsModeWithin limit (mode.Close last place) = IsFormWithin limit last × (place ≤ limit)
 
-abbrev pub element_of : Frame → ℕ
-element_of Whole = 0
-element_of (Inner depth) = 0
-element_of (Element first) = 1
-element_of (Dot place) = 0
+abbrev pub waiting_in : Frame → ℕ
+waiting_in Whole = 0
+waiting_in (Inner depth) = 0
+waiting_in (Element first) = 1
+waiting_in (Dot place) = 0
 
 -- how many elements wait for what follows them
-abbrev pub elements : List Frame → ℕ
-elements [] = 0
-elements (frame ∷ above) = element_of frame + elements above
+abbrev pub waiting : List Frame → ℕ
+waiting [] = 0
+waiting (frame ∷ above) = waiting_in frame + waiting above
 
 -- ---- faults
-
--- the fault that a frame tells in place of one behind it
-abbrev pub told_by : Frame → ScanKind → Option TextFault
-told_by Whole what = None
-told_by (Inner depth) what = None
-told_by (Element (form.Tree node)) what = None
-told_by (Element (form.Unknown place)) what = Some (Name place)
-told_by (Dot place) what = if is_dots_fault what then Some (Read kind.Dot place) else None
-
--- the first fault, where something is wrong behind the frames
-abbrev pub fault_behind : List Frame → ScanKind → ℕ → TextFault
-fault_behind [] what place = Read what place
-fault_behind (frame ∷ above) what place = unwrap_or (told_by frame what) (fault_behind above what place)
-
--- What is wrong behind the last form is its dot's fault.
-abbrev pub fault_in : List Frame → Mode → ScanKind → ℕ → TextFault
-fault_in frames (mode.Form depth) what place = fault_behind frames what place
-fault_in frames (mode.List depth begun) what place = fault_behind frames what place
-fault_in frames (mode.Close last dot) what place = fault_behind frames kind.Dot dot
 
 -- An unknown name stands before what is wrong.
 pub record BreaksBehind (name : List ℕ) (parsed : ParsedTree) : Type 0 where
@@ -113,11 +91,31 @@ pub record BreaksBehind (name : List ℕ) (parsed : ParsedTree) : Type 0 where
   pub is : parsed ≡ Breaks what (Some name) from
 
 -- That is why the text has no form, and where.
+abbrev pub IsFirstFault : ℕ → List ℕ → TextFault → ParsedTree → Type 0
+IsFirstFault limit text (Read what place) parsed = (place ≤ limit) × (parsed ≡ Breaks what None (drop place text))
+IsFirstFault limit text (Name place) parsed = (place ≤ limit) × BreaksBehind (drop place text) parsed
+IsFirstFault limit text (Left place) parsed = ⊥
+IsFirstFault limit text OutOfMemory parsed = ⊥
+
+-- That, or memory lacks.
 abbrev pub IsBroken : ℕ → List ℕ → TextFault → ParsedTree → Type 0
-IsBroken limit text (Read what place) parsed = (place ≤ limit) × (parsed ≡ Breaks what None (drop place text))
-IsBroken limit text (Name place) parsed = (place ≤ limit) × BreaksBehind (drop place text) parsed
-IsBroken limit text (Left place) parsed = ⊥
 IsBroken limit text OutOfMemory parsed = Unit {0}
+IsBroken limit text fault parsed = IsFirstFault limit text fault parsed
+
+-- The frame tells this fault in place of what is wrong behind it.
+abbrev pub Tells : Frame → ScanKind → TextFault → Type 0
+Tells frame what fault =
+    (trees : List Tree) (text : List ℕ) (above : List Frame) (from : List ℕ) (limit : ℕ) → IsFrameWithin limit frame → IsFirstFault limit text fault (resumed trees text (frame ∷ above) (Breaks what None from))
+
+-- The frame keeps what is wrong behind it as it is.
+abbrev pub Keeps : Frame → ScanKind → Type 0
+Keeps frame what =
+    (trees : List Tree) (text : List ℕ) (above : List Frame) (from : List ℕ) → resumed trees text (frame ∷ above) (Breaks what None from) ≡ resumed trees text above (Breaks what None from)
+
+-- This fault is told where no token can be read at this place.
+abbrev pub IsToldUnread : List Frame → Mode → ScanKind → ℕ → TextFault → Type 0
+IsToldUnread frames awaited what place fault =
+    (trees : List Tree) (text : List ℕ) → AreWithin place frames → IsModeWithin place awaited → IsFirstFault place text fault (told trees text frames awaited (Unread what (drop place text)))
 
 -- ---- steps
 
@@ -132,16 +130,13 @@ list_frame (mode.Form depth) = Whole
 list_frame (mode.List depth begun) = Inner depth
 list_frame (mode.Close last place) = Whole
 
--- the depth at which a dot may stand: behind an element
-abbrev pub begun_in : Mode → Option ℕ
-begun_in (mode.Form depth) = None
-begun_in (mode.List depth begun) = if begun then Some depth else None
-begun_in (mode.Close last place) = None
+-- This token may not stand there: it is told like what can't be read there.
+abbrev pub IsRefused : Mode → ScanKind → Token → Type 0
+IsRefused awaited what token = (trees : List Tree) (text from rest : List ℕ) → at_token trees text awaited (Took token from rest) ≡ at_token trees text awaited (Unread what from)
 
-abbrev pub IsForm : Mode → Type 0
-IsForm (mode.Form depth) = Unit {0}
-IsForm (mode.List depth begun) = ⊥
-IsForm (mode.Close last place) = ⊥
+-- Behind a dot the last form is read, at this depth.
+abbrev pub HasLastAt : Mode → ℕ → Type 0
+HasLastAt awaited depth = (trees : List Tree) (text from rest : List ℕ) → at_token trees text awaited (Took tokens.Point from rest) ≡ last_form from (form_at clvm (list_from clvm) depth (token_of rest))
 
 -- A `)` ends this form.
 pub record Ends (trees : List Tree) (awaited : Mode) (ended : Form) : Type 0 where
@@ -167,16 +162,10 @@ abbrev pub Settles : List Tree → List Frame → Form → List Tree → List Fr
 Settles old before read new after step =
     (limit : ℕ) → AreWithin limit before → IsFormWithin limit read → Leads limit (λ text rest. resumed old text before (Parses (formed old text read) rest)) new after step
 
--- what is read where a form stands, with this rest behind it
-abbrev pub at_form : Mode → Named → List ℕ → ParsedTree
-at_form (mode.Form depth) read rest = Parses read rest
-at_form (mode.List depth begun) read rest = with_rest clvm (list_from clvm) depth [] (Parses read rest)
-at_form (mode.Close last place) read rest = Parses read rest
-
 -- After a form that is awaited.
 abbrev pub Places : List Tree → List Frame → Mode → Form → List Tree → List Frame → Step → Type 0
 Places old before awaited read new after step =
-    (limit : ℕ) → AreWithin limit before → IsFormWithin limit read → Leads limit (λ text rest. resumed old text before (at_form awaited (formed old text read) rest)) new after step
+    (limit : ℕ) → AreWithin limit before → IsFormWithin limit read → Leads limit (λ text rest. resumed old text before (framed old text (list_frame awaited) (Parses (formed old text read) rest))) new after step
 
 -- After a token at this place.
 abbrev pub Takes : List Tree → List Frame → Mode → ℕ → Token → List Tree → List Frame → Step → Type 0

@@ -1,15 +1,16 @@
 //! How a text is read, token by token, with the lists that are open.
 
-ghost use Rattle.std.specs.Prelude.{◌≡◌, ℕ, ◌+◌, ◌<◌, ◌≤◌, ◌^◌, List, length, Some, option_map, MatchOption, IfOk, IfErr, OnOk, OnErr};
+ghost use Rattle.std.specs.Prelude.{◌≡◌, ℕ, ◌+◌, ◌<◌, ◌≤◌, ◌^◌, List, length, drop, Some, None, option_map, MatchOption, IfOk, IfErr, OnOk, OnErr};
 ghost use Rattle.clvm_spec.specs.Tree.{Tree, Atom};
 ghost use Rattle.clvm_spec.specs.Tokens as tokens;
+ghost use Rattle.clvm_spec.specs.Grammar.{Breaks};
 ghost use Rattle.clvm_spec.specs.Text.{paired};
 ghost use Rattle.clvm_spec.specs.OperatorTable.{operator_named};
 ghost use Rattle.clvm_tree.specs.Nodes.{Grows, Adds};
 ghost use Rattle.text_tokens.specs.Meanings.{literal_bytes, meant};
 ghost use Rattle.clvm_text.specs.Forms.{formed, IsKnownForm, IsFormWithin, Makes};
 ghost use Rattle.clvm_text.specs.Leaves.{token_of_leaf, leaf_form};
-ghost use Rattle.clvm_text.specs.Frames.{AreBegun, IsMode, AreWithin, IsModeWithin, elements, told_by, fault_behind, fault_in, depth_in, list_frame, begun_in, IsForm, Ends, Settles, Places, Takes, Stops};
+ghost use Rattle.clvm_text.specs.Frames.{resumed, AreBegun, IsMode, AreWithin, IsModeWithin, waiting, IsFirstFault, Tells, Keeps, IsToldUnread, depth_in, list_frame, IsRefused, HasLastAt, Ends, Settles, Places, Takes, Stops};
 
 use crate::TextFault;
 use case_table::code_of;
@@ -60,17 +61,20 @@ pub(crate) enum Step {
 // The fault that the frame tells in place of one behind it: an unknown name stands before that, and what is wrong behind
 // a dot is the dot's fault, but nesting too deep.
 fn told_by(frame: Frame, kind: ScanKind) -> Option<TextFault>
-    ensures { result ≡ told_by frame kind }
+    ensures { MatchOption result (Keeps frame kind) (Tells frame kind) }
 {
     match frame {
         Frame::Element(Form::Unknown(name)) => Some(TextFault::Name(name)),
         Frame::Dot(dot) if kind.is_dots_fault() => Some(TextFault::Read(ScanKind::Dot, dot)),
-        _ => None,
+        Frame::Whole => None,
+        Frame::Inner(_) => None,
+        Frame::Element(Form::Tree(_)) => None,
+        Frame::Dot(_) => None,
     }
 }
 
 fn fault_behind(frames: &[Frame], kind: ScanKind, place: u32) -> TextFault
-    ensures { result ≡ fault_behind frames.now kind place }
+    ensures { (trees : List Tree) (text : List ℕ) (limit : ℕ) → AreWithin limit frames.now → place ≤ limit → IsFirstFault limit text result (resumed trees text frames.now (Breaks kind None (drop place text))) }
 {
     let mut rest = frames;
     'frames: while let [frame, above @ ..] = rest {
@@ -84,7 +88,7 @@ fn fault_behind(frames: &[Frame], kind: ScanKind, place: u32) -> TextFault
 
 /// The first fault, where something is wrong at this place.
 pub(crate) fn fault(frames: &[Frame], mode: Mode, kind: ScanKind, place: u32) -> TextFault
-    ensures { result ≡ fault_in frames.now mode kind place }
+    ensures { IsToldUnread frames.now mode kind place result }
 {
     match mode {
         Mode::Close(_, dot) => fault_behind(frames, ScanKind::Dot, dot),
@@ -157,9 +161,9 @@ fn settle(
 ) -> Result<Step, OutOfMemory>
     requires known { IsKnownForm trees.old form }
     requires begun { AreBegun trees.old frames.old.items }
-    requires fits { length trees.old + elements frames.old.items < 2 ^ 31 }
+    requires fits { length trees.old + waiting frames.old.items < 2 ^ 31 }
     ensures grows { Grows trees.old trees.new }
-    ensures few { length trees.new + elements frames.new.items ≤ length trees.old + elements frames.old.items + 1 }
+    ensures few { length trees.new + waiting frames.new.items ≤ length trees.old + waiting frames.old.items + 1 }
     ensures settles { IfOk result (Settles trees.old frames.old.items form trees.new frames.new.items) }
 {
     let mut whole = form;
@@ -200,7 +204,7 @@ fn list_frame(mode: Mode) -> Frame
 
 // The depth at which a dot may stand.
 fn begun_in(mode: Mode) -> Option<u32>
-    ensures { result ≡ begun_in mode }
+    ensures { MatchOption result (IsRefused mode ScanKind.Dot tokens.Point) (HasLastAt mode) }
 {
     match mode {
         Mode::List(depth, begun) => { if begun { Some(depth) } else { None } }
@@ -211,7 +215,7 @@ fn begun_in(mode: Mode) -> Option<u32>
 // What a `)` ends: a list so far, or the form behind a dot.
 fn ended_in(trees: &Trees, mode: Mode) -> Option<Form>
     requires { IsMode trees.now mode }
-    ensures { MatchOption result (IsForm mode) (Ends trees.now mode) }
+    ensures { MatchOption result (IsRefused mode ScanKind.Close tokens.Closing) (Ends trees.now mode) }
 {
     match mode {
         Mode::Form(_) => None,
@@ -222,7 +226,7 @@ fn ended_in(trees: &Trees, mode: Mode) -> Option<Form>
 
 // Behind `(` stands what is in a list.
 fn open(frames: &mut Vec<Frame>, mode: Mode, place: u32) -> Result<Step, TextFault>
-    ensures few { elements frames.new.items ≤ elements frames.old.items }
+    ensures few { waiting frames.new.items ≤ waiting frames.old.items }
     ensures takes { IfOk result (λ step. (trees : List Tree) → AreBegun trees frames.old.items → AreWithin place frames.old.items → Takes trees frames.old.items mode place tokens.Opening trees frames.new.items step) }
     ensures stops { IfErr result (λ fault. (trees : List Tree) → AreWithin place frames.old.items → IsModeWithin place mode → Stops trees frames.old.items mode place tokens.Opening fault) }
 {
@@ -240,7 +244,7 @@ fn open(frames: &mut Vec<Frame>, mode: Mode, place: u32) -> Result<Step, TextFau
 
 // Behind a dot stands the last form.
 fn point(frames: &mut Vec<Frame>, mode: Mode, place: u32) -> Result<Step, TextFault>
-    ensures few { elements frames.new.items ≤ elements frames.old.items }
+    ensures few { waiting frames.new.items ≤ waiting frames.old.items }
     ensures takes { IfOk result (λ step. (trees : List Tree) → AreBegun trees frames.old.items → AreWithin place frames.old.items → Takes trees frames.old.items mode place tokens.Point trees frames.new.items step) }
     ensures stops { IfErr result (λ fault. (trees : List Tree) → AreWithin place frames.old.items → IsModeWithin place mode → Stops trees frames.old.items mode place tokens.Point fault) }
 {
@@ -265,9 +269,9 @@ fn close(
     requires known { IsMode trees.old mode }
     requires within { AreWithin place frames.old.items }
     requires mode_within { IsModeWithin place mode }
-    requires fits { length trees.old + elements frames.old.items < 2 ^ 31 }
+    requires fits { length trees.old + waiting frames.old.items < 2 ^ 31 }
     ensures grows { Grows trees.old trees.new }
-    ensures few { length trees.new + elements frames.new.items ≤ length trees.old + elements frames.old.items + 1 }
+    ensures few { length trees.new + waiting frames.new.items ≤ length trees.old + waiting frames.old.items + 1 }
     ensures takes { IfOk result (Takes trees.old frames.old.items mode place tokens.Closing trees.new frames.new.items) }
     ensures stops { IfErr result (Stops trees.old frames.old.items mode place tokens.Closing) }
 {
@@ -292,9 +296,9 @@ fn place_form(
     requires begun { AreBegun trees.old frames.old.items }
     requires known { IsKnownForm trees.old form }
     requires depth { depth_in mode ≡ Some depth }
-    requires fits { length trees.old + elements frames.old.items < 2 ^ 31 }
+    requires fits { length trees.old + waiting frames.old.items < 2 ^ 31 }
     ensures grows { Grows trees.old trees.new }
-    ensures few { length trees.new + elements frames.new.items ≤ length trees.old + elements frames.old.items + 1 }
+    ensures few { length trees.new + waiting frames.new.items ≤ length trees.old + waiting frames.old.items + 1 }
     ensures places { IfOk result (Places trees.old frames.old.items mode form trees.new frames.new.items) }
     ensures fault { IfErr result (λ fault. fault ≡ TextFault.OutOfMemory) }
 {
@@ -323,9 +327,9 @@ fn take(
     requires known { IsMode trees.old mode }
     requires within { AreWithin place frames.old.items }
     requires mode_within { IsModeWithin place mode }
-    requires fits { length trees.old + elements frames.old.items + 1 < 2 ^ 31 }
+    requires fits { length trees.old + waiting frames.old.items + 1 < 2 ^ 31 }
     ensures grows { Grows trees.old trees.new }
-    ensures few { length trees.new + elements frames.new.items ≤ length trees.old + elements frames.old.items + 2 }
+    ensures few { length trees.new + waiting frames.new.items ≤ length trees.old + waiting frames.old.items + 2 }
     ensures takes { IfOk result (Takes trees.old frames.old.items mode place (token_of_leaf leaf.entry) trees.new frames.new.items) }
     ensures stops { IfErr result (Stops trees.old frames.old.items mode place (token_of_leaf leaf.entry)) }
 {
@@ -351,9 +355,9 @@ pub(crate) fn advance(
     requires known { IsMode trees.old mode }
     requires within { AreWithin place frames.old.items }
     requires mode_within { IsModeWithin place mode }
-    requires fits { length trees.old + elements frames.old.items + 1 < 2 ^ 31 }
+    requires fits { length trees.old + waiting frames.old.items + 1 < 2 ^ 31 }
     ensures grows { Grows trees.old trees.new }
-    ensures few { length trees.new + elements frames.new.items ≤ length trees.old + elements frames.old.items + 2 }
+    ensures few { length trees.new + waiting frames.new.items ≤ length trees.old + waiting frames.old.items + 2 }
     ensures takes { IfOk result (Takes trees.old frames.old.items mode place (meant token.entry) trees.new frames.new.items) }
     ensures stops { IfErr result (Stops trees.old frames.old.items mode place (meant token.entry)) }
 {

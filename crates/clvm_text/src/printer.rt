@@ -1,10 +1,9 @@
 ghost use Rattle.std.specs.Prelude.{◌≡◌, ◌+◌, ◌<◌, ◌≤◌, ◌++◌, length, Option, Some, None, IfOk, IfErr, OnOk, string_bytes, string_len, vec_len, codes, if◌then◌else◌};
-ghost use Rattle.hex.specs.Hex.{encode_lower};
 ghost use Rattle.clvm_spec.specs.Tree.{Tree, Atom};
 ghost use Rattle.clvm_spec.specs.Numbers.{number};
-ghost use Rattle.clvm_spec.specs.Text.{is_short_number, bytes_text, opening, first_of, text_at, printed};
+ghost use Rattle.clvm_spec.specs.Text.{is_decimal, hex_text, bytes_text, opening, first_position, text_at, printed};
 ghost use Rattle.clvm_tree.specs.Nodes.{tree_at, IsKnown};
-ghost use Rattle.clvm_text.specs.Positions.{position_of, texts, AreKnown};
+ghost use Rattle.clvm_text.specs.Positions.{position_of};
 
 use case_table::name_of;
 use clvm_spec::shortest_bytes;
@@ -42,9 +41,9 @@ fn push(text: &mut String, piece: &str, most: usize) -> Result<(), WriteFault>
 
 fn push_hex(alloc: Global, text: &mut String, bytes: &[u8], most: usize) -> Result<(), WriteFault>
     requires within { string_len text.old ≤ most }
-    ensures ok { OnOk result (string_bytes text.new ≡ string_bytes text.old ++ (codes "0x" ++ encode_lower bytes.now)) }
+    ensures ok { OnOk result (string_bytes text.new ≡ string_bytes text.old ++ (hex_text bytes.now)) }
     ensures within { OnOk result (string_len text.new ≤ most) }
-    ensures too_long { IfErr result (λ fault. fault ≡ WriteFault.TooLong → most < string_len text.old + length (codes "0x" ++ encode_lower bytes.now)) }
+    ensures too_long { IfErr result (λ fault. fault ≡ WriteFault.TooLong → most < string_len text.old + length (hex_text bytes.now)) }
 {
     let room = most - text.len();
     if room < 2 || (room - 2) / 2 < bytes.len() {
@@ -57,8 +56,8 @@ fn push_hex(alloc: Global, text: &mut String, bytes: &[u8], most: usize) -> Resu
 }
 
 // Whether an atom is written in decimal.
-fn is_short_number(bytes: &[u8]) -> bool
-    ensures { result ≡ is_short_number bytes.now }
+fn is_decimal(bytes: &[u8]) -> bool
+    ensures { result ≡ is_decimal bytes.now }
 {
     let shortest = shortest_bytes(bytes);
     bytes.len() <= 2 && shortest.len() == bytes.len()
@@ -68,9 +67,9 @@ fn is_short_number(bytes: &[u8]) -> bool
 fn short_number(trees: &Trees, node: Node, bytes: &[u8]) -> Option<i128>
     requires known { IsKnown trees.now node.0 }
     requires bytes { tree_at trees.now node.0 ≡ Atom bytes.now }
-    ensures { result ≡ (if is_short_number bytes.now then Some (number bytes.now) else None) }
+    ensures { result ≡ (if is_decimal bytes.now then Some (number bytes.now) else None) }
 {
-    if is_short_number(bytes) {
+    if is_decimal(bytes) {
         trees.number_of(node)
     } else {
         None
@@ -145,8 +144,8 @@ fn opening(position: Position) -> &'static str
 }
 
 // Where a pair's first stands.
-fn first_of(position: Position) -> Position
-    ensures { position_of result ≡ first_of (position_of position) }
+fn first_position(position: Position) -> Position
+    ensures { position_of result ≡ first_position (position_of position) }
 {
     match position {
         Position::Rest => Position::Alone,
@@ -177,7 +176,7 @@ pub fn print(alloc: Global, trees: &Trees, node: Node, most: usize) -> Result<St
                     node: rest,
                 })?;
                 pending.push(Pending {
-                    position: first_of(next.position),
+                    position: first_position(next.position),
                     node: first,
                 })?;
             }

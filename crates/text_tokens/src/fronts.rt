@@ -1,8 +1,7 @@
 //! The token at the front of a text.
 
-ghost use Rattle.std.specs.Prelude.{◌≡◌, ◌==◌, ◌∷◌, false, not};
-ghost use Rattle.std.specs.List.{prefix_len};
-ghost use Rattle.clvm_spec.specs.Tokens.{is_separator, is_plain, is_word_byte, without_blanks, word_at, quoted, at_front, token_of};
+ghost use Rattle.std.specs.Prelude.{◌≡◌, ◌∷◌, false};
+ghost use Rattle.clvm_spec.specs.Tokens.{is_separator, is_plain, is_word_byte, without_blanks, word_size, word_at, quoted_size, quoted, at_front, token_of};
 ghost use Rattle.text_tokens.specs.Meanings.{meant_front};
 ghost use Rattle.text_tokens.specs.Ends.{AreEnds};
 
@@ -86,7 +85,7 @@ fn skip_blanks(text: &[u8]) -> &[u8]
 
 // How many bytes the word at the front has.
 fn word_len(text: &[u8]) -> usize
-    ensures { result ≡ prefix_len is_word_byte text.now }
+    ensures { result ≡ word_size text.now }
 {
     let mut size = 0;
     for byte in text {
@@ -100,7 +99,7 @@ fn word_len(text: &[u8]) -> usize
 
 // How many bytes stand before the quote.
 fn quoted_len(quote: u8, text: &[u8]) -> usize
-    ensures { result ≡ prefix_len (λ b. not (b == quote)) text.now }
+    ensures { result ≡ quoted_size quote text.now }
 {
     let mut size = 0;
     for byte in text {

@@ -1,11 +1,9 @@
 //! What a word is: a number, bytes in hexadecimal, a dot or a symbol.
 
 ghost use Rattle.std.specs.Prelude.{◌≡◌, true};
-ghost use Rattle.std.specs.List.{list_all};
-ghost use Rattle.std.specs.Char.{is_ascii_digit};
-ghost use Rattle.std.specs.Str.Parse.{signed_digits_value};
+ghost use Rattle.std.specs.Str.{all_ascii_digits};
 ghost use Rattle.clvm_spec.specs.Arithmetic.{if_fits};
-ghost use Rattle.clvm_spec.specs.Tokens.{without_minus, begins_with_digit, is_number, hex_token, from_digit, from_hex, word_token};
+ghost use Rattle.clvm_spec.specs.Tokens.{without_minus, begins_with_digit, is_number, word_number, hex_token, from_digit, from_hex, word_token};
 ghost use Rattle.text_tokens.specs.Meanings.{meant_word};
 
 use crate::ScanKind;
@@ -23,7 +21,7 @@ fn without_minus(word: &[u8]) -> &[u8]
 }
 
 fn are_digits(digits: &[u8]) -> bool
-    ensures { result ≡ list_all is_ascii_digit digits.now }
+    ensures { result ≡ all_ascii_digits digits.now }
 {
     digits.iter().all(|digit| digit.is_ascii_digit())
 }
@@ -38,7 +36,7 @@ fn is_number(digits: &[u8]) -> bool
 // The number that digits write behind a minus or none, if 128 bits hold it.
 fn number(word: &[u8]) -> Option<i128>
     requires { is_number (without_minus word.now) ≡ true }
-    ensures { result ≡ if_fits (signed_digits_value 10 word.now) }
+    ensures { result ≡ if_fits (word_number word.now) }
 {
     match std::str::from_utf8(word) {
         Ok(text) => text.parse::<i128>().ok(),

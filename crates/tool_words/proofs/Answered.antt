@@ -1,5 +1,5 @@
 -- What an answer of `clap` tells of the words.
-use Rattle.std.proofs.Common.{◌≡◌, ◌∙◌, Bool, true, false, cond, ◌&&◌, ◌||◌, List, [], ◌∷◌, length, nat_le, Some, None, refl, sym, ap, subst, inl, inr, true≢false, bytes_eq}
+use Rattle.std.proofs.Common.{◌≡◌, ◌∙◌, Bool, true, false, cond, ◌&&◌, ◌||◌, List, [], ◌∷◌, Some, None, refl, sym, ap, subst, inl, inr, true≢false, bytes_eq}
 use Rattle.std.specs.List.{list_all}
 use Rattle.std.specs.Option.{option_and_then}
 use Rattle.std.proofs.lemmas.Bool.{false_from_ne_true, and_parts, and_from, or_left, or_right}
@@ -14,9 +14,9 @@ use Rattle.clap.specs.Values.{kind_of}
 use Rattle.clap.specs.declared.error.Error.{Error}
 use Rattle.clap.specs.declared.error.kind.ErrorKind.TheVariants as kind
 use Rattle.clap.specs.declared.parser.matches.ArgMatches.{ArgMatches}
-use Rattle.tool_words.specs.Rows.{Text, Row, is_among, options_in, others_in, value_of, are_new, have_digits, is_whole, whole, said_in}
-use Rattle.tool_words.specs.Parser.{digits_at, parser, is_good, is_readable, IsTaken, IsRead}
-use Rattle.tool_words.specs.Fits.{fits, words_in}
+use Rattle.tool_words.specs.Rows.{Text, Row, is_among, options_in, others_in, value_of, are_new, have_digits, has_count, is_whole, whole, said_in}
+use Rattle.tool_words.specs.Parser.{digits_at, parser, is_good, is_readable, words_in, IsTaken, IsRead}
+use Rattle.tool_words.specs.Fits.{fits, numbers_fit}
 use Rattle.tool_words.proofs.Laws.{taken, refused, digits_from, digits_each}
 
 simple : (row : Row) → is_good row.flags row.numbers ≡ true → (a : App) → a ≡ parser row.flags row.numbers → is_simple_and_free a ≡ true
@@ -55,9 +55,6 @@ all_from p (m ∷ names) each = and_from (p m) (list_all p names)
     (each m (or_left (bytes_eq m m) (is_among names m) ((bytes_eq-Decides m m).1 refl)))
     (all_from p names (λ n among. each n (or_right (bytes_eq m n) (is_among names n) among)))
 
-counts : (row : Row) → List Text → Bool
-counts row others = nat_le row.least (length others) && nat_le (length others) row.most
-
 pub read_law : (row : Row) (words : List Text) (found : List Found) → IsTaken row words found → fits row found ≡ true → IsRead row words found
 read_law row words found t fit = record {
   items = t.items;
@@ -66,8 +63,8 @@ read_law row words found t fit = record {
   has = t.has;
 }
   where
-    both : (list_all (λ name. digits_at (first_of name found)) row.numbers ≡ true) × ((nat_le row.least (length (words_in found)) && nat_le (length (words_in found)) row.most) ≡ true)
-    both = and_parts (list_all (λ name. digits_at (first_of name found)) row.numbers) (nat_le row.least (length (words_in found)) && nat_le (length (words_in found)) row.most) fit
+    both : (numbers_fit row.numbers found ≡ true) × (has_count row (words_in found) ≡ true)
+    both = and_parts (numbers_fit row.numbers found) (has_count row (words_in found)) fit
 
     each : (n : Text) (b : Bool) → is_among row.numbers n ≡ b → digits_at (value_of n t.items) ≡ true
     each n true e = ap digits_at (sym (t.has.number n e)) ∙ all_at (λ name. digits_at (first_of name found)) row.numbers n both.0 e
@@ -76,8 +73,8 @@ read_law row words found t fit = record {
     digits : have_digits t.items ≡ true
     digits = digits_from t.items [] t.new (λ n. each n (is_among row.numbers n) refl)
 
-    counted : (nat_le row.least (length (others_in t.items)) && nat_le (length (others_in t.items)) row.most) ≡ true
-    counted = ap (λ o. nat_le row.least (length o) && nat_le (length o) row.most) (sym t.has.others) ∙ both.1
+    counted : has_count row (others_in t.items) ≡ true
+    counted = ap (has_count row) (sym t.has.others) ∙ both.1
 
 pub unread_law : (row : Row) (words : List Text) (found : List Found) → IsTaken row words found → fits row found ≡ false → said_in row words ≡ None
 unread_law row words found t unfit = ap (option_and_then (whole row)) t.says
@@ -85,8 +82,8 @@ unread_law row words found t unfit = ap (option_and_then (whole row)) t.says
   where
     fit : is_whole row t.items ≡ true → fits row found ≡ true
     fit w =
-        let first = and_parts (are_new [] (options_in t.items)) (have_digits t.items && (nat_le row.least (length (others_in t.items)) && nat_le (length (others_in t.items)) row.most)) w in
-        let second = and_parts (have_digits t.items) (nat_le row.least (length (others_in t.items)) && nat_le (length (others_in t.items)) row.most) first.1 in
-        and_from (list_all (λ name. digits_at (first_of name found)) row.numbers) (nat_le row.least (length (words_in found)) && nat_le (length (words_in found)) row.most)
+        let first = and_parts (are_new [] (options_in t.items)) (have_digits t.items && has_count row (others_in t.items)) w in
+        let second = and_parts (have_digits t.items) (has_count row (others_in t.items)) first.1 in
+        and_from (numbers_fit row.numbers found) (has_count row (words_in found))
         (all_from (λ name. digits_at (first_of name found)) row.numbers (λ n among. ap digits_at (t.has.number n among) ∙ digits_each t.items second.0 n))
-        (ap (λ o. nat_le row.least (length o) && nat_le (length o) row.most) t.has.others ∙ second.1)
+        (ap (has_count row) t.has.others ∙ second.1)

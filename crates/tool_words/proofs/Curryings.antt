@@ -4,8 +4,7 @@ use Rattle.std.specs.Option.{option_map, option_and_then}
 use Rattle.clap.specs.Walk.{Row as Found}
 use Rattle.clvm_input.specs.Words.{words_of}
 use Rattle.tool_words.specs.Rows.{Text}
-use Rattle.tool_words.specs.Parser.{IsRead}
-use Rattle.tool_words.specs.Fits.{words_in}
+use Rattle.tool_words.specs.Parser.{words_in, IsRead}
 use Rattle.tool_words.specs.Curries.{curry_row, curry_in, curry_of}
 use Rattle.tool_words.specs.declared.said.Command.TheVariants.{Curry}
 

@@ -9,8 +9,7 @@ use Rattle.std.proofs.lemmas.Str.Parse.{IsNumeralModel, numerals_by_value, parse
 use Rattle.clap.specs.Walk.{first_of}
 use Rattle.clap.specs.Walk.{Row as Found}
 use Rattle.tool_words.specs.Rows.{Text, Row, Item, is_among, flags_in, others_in, options_in, are_new, have_digits, is_digits, is_whole, items_from, whole}
-use Rattle.tool_words.specs.Parser.{digits_at, flag_text, IsRead}
-use Rattle.tool_words.specs.Fits.{words_in}
+use Rattle.tool_words.specs.Parser.{digits_at, flag_text, words_in, IsRead}
 use Rattle.tool_words.specs.Evals.{eval_row, up_to, cost_of, env_of, eval_in, eval_of}
 use Rattle.tool_words.specs.declared.said.Command.TheVariants.{Eval}
 use Rattle.tool_words.proofs.Laws.{digits_each}

@@ -5,12 +5,12 @@ use Rattle.std.specs.Option.{option_map, option_and_then, unwrap_or}
 use Rattle.std.specs.Prelude.{slice_get}
 use Rattle.std.proofs.lemmas.Bool.{false_from_ne_true, and_parts, or_left, or_right}
 use Rattle.std.proofs.lemmas.Slice.Eq.{bytes_eq-Decides}
-use Rattle.clap.specs.Walk.{Rule, Row, used, has_row, with_default, more_values, with_values, row_text, all_of}
+use Rattle.clap.specs.Walk.{Rule, Row, used, has_row, with_default, more_values, with_values, row_text}
 use Rattle.clap.specs.declared.parser.matches.ValueSource.TheVariants.{CommandLine, DefaultValue}
 use Rattle.clap.specs.declared.builder.value_parser.Reading.TheVariants as reading
 use Rattle.tool_words.specs.Rows as rows
 use Rattle.tool_words.specs.Rows.{Text, Item, IsFlag, IsNumber, IsOther, is_among, options_in, flags_in, others_in, value_of, are_new}
-use Rattle.tool_words.specs.Parser.{word_id, flag_text, HasItems}
+use Rattle.tool_words.specs.Parser.{word_id, flag_text, words_in, HasItems}
 use Rattle.tool_words.proofs.Turns.{built_flag, built_number, built_word, option_row, put_number, put_flag, at_row_missing, has_row_word}
 use Rattle.tool_words.proofs.Walks.{Finds, is_option, is_item, put, puts, Tracks, tracks_more}
 use Rattle.tool_words.proofs.Built.{built_rules}
@@ -74,9 +74,6 @@ word_row n w (x ∷ V) e = go (bytes_eq x.id word_id) refl (word_row n w V e)
         let miss : bytes_eq x.id n ≡ false = ap (λ i. bytes_eq i n) is ∙ e in
         rw miss refl
     go false p ih = ap (λ o. cond (bytes_eq x.id n) (Some x) o) ih
-
-abbrev words_in : List Row → List Text
-words_in V = unwrap_or (all_of word_id V) []
 
 word_put : (w : Text) (V : List Row) → words_in (used built_word (w ∷ []) V) ≡ words_in V ++ w ∷ []
 word_put w [] = refl

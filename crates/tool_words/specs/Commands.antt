@@ -12,11 +12,15 @@ use Rattle.tool_words.specs.declared.said.WordsFault.TheVariants.{Words, OutOfMe
 abbrev pub nothing : Row
 nothing = record { flags = []; numbers = []; least = 0; most = 0 }
 
+-- a command that has no words
+abbrev pub alone : Command → List Text → Option Command
+alone command words = option_map (λ said. command) (said_in nothing words)
+
 -- the command of a name, by the words behind it
 abbrev pub command_by : Text → List Text → Option Command
 command_by name words =
-    if bytes_eq name (codes "session") then option_map (λ said. Session) (said_in nothing words)
-    else (if bytes_eq name (codes "hash") then option_map (λ said. Hash) (said_in nothing words)
+    if bytes_eq name (codes "session") then alone Session words
+    else (if bytes_eq name (codes "hash") then alone Hash words
     else (if bytes_eq name (codes "eval") then eval_of words
     else (if bytes_eq name (codes "curry") then curry_of words else None)))
 

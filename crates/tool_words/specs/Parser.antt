@@ -62,11 +62,15 @@ abbrev pub flag_text : Bool → Text
 flag_text true = codes "true"
 flag_text false = codes "false"
 
+-- the other words that are found
+abbrev pub words_in : List Found → List Text
+words_in found = unwrap_or (all_of word_id found) []
+
 -- what is asked of the matches of words that say these items
 pub record HasItems (flags numbers : List Text) (items : List Item) (found : List Found) : Type 0 where
   pub flag : (name : Text) → is_among flags name ≡ true → one_of name found ≡ Some (flag_text (is_among (flags_in items) name))
   pub number : (name : Text) → is_among numbers name ≡ true → first_of name found ≡ value_of name items
-  pub others : unwrap_or (all_of word_id found) [] ≡ others_in items
+  pub others : words_in found ≡ others_in items
   pub only : (name : Text) → is_among numbers name ≡ false → value_of name items ≡ None
 
 -- The words of a row say items with new options, and the matches have them. Neither digits nor the count of other words

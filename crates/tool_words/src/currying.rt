@@ -4,8 +4,7 @@ ghost use Rattle.std.specs.Prelude.{map, string_bytes};
 ghost use Rattle.clap.specs.Walk.{rows_of};
 ghost use Rattle.clap.specs.Matches.{found_of};
 ghost use Rattle.clvm_input.specs.Words.{words_of};
-ghost use Rattle.tool_words.specs.Fits.{words_in};
-ghost use Rattle.tool_words.specs.Parser.{texts_of};
+ghost use Rattle.tool_words.specs.Parser.{texts_of, words_in};
 ghost use Rattle.tool_words.specs.Curries.{curry_of};
 ghost use Rattle.tool_words.specs.Commands.{Says};
 

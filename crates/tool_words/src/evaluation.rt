@@ -6,8 +6,7 @@ ghost use Rattle.clap.specs.Walk.{first_of, rows_of};
 ghost use Rattle.clap.specs.Matches.{found_of};
 ghost use Rattle.clvm_input.specs.Words.{word_of};
 ghost use Rattle.tool_words.specs.Rows.{is_digits};
-ghost use Rattle.tool_words.specs.Parser.{digits_at, texts_of};
-ghost use Rattle.tool_words.specs.Fits.{words_in};
+ghost use Rattle.tool_words.specs.Parser.{digits_at, texts_of, words_in};
 ghost use Rattle.tool_words.specs.Evals.{cost_of, env_of, eval_of, up_to};
 ghost use Rattle.tool_words.specs.Commands.{Says};
 

@@ -6,8 +6,8 @@ ghost use Rattle.std.specs.List.{list_all};
 ghost use Rattle.clap.specs.Walk.{first_of, rows_of};
 ghost use Rattle.clap.specs.Matches.{found_of};
 ghost use Rattle.tool_words.specs.Rows.{is_digits};
-ghost use Rattle.tool_words.specs.Parser.{is_good, is_readable, texts_of, row_of, digits_at, Takes, Reads};
-ghost use Rattle.tool_words.specs.Fits.{fits, words_in};
+ghost use Rattle.tool_words.specs.Parser.{is_good, is_readable, texts_of, row_of, digits_at, words_in, Takes, Reads};
+ghost use Rattle.tool_words.specs.Fits.{fits, numbers_fit};
 
 use crate::row::{Row, parser};
 use crate::said::WordsFault;
@@ -91,7 +91,7 @@ fn has_digits(matches: &ArgMatches, name: &str) -> bool
 }
 
 fn have_digits(matches: &ArgMatches, names: &[&str]) -> bool
-    ensures { result ≡ list_all (λ name. digits_at (first_of name (rows_of (found_of matches.now)))) (texts_of names.now) }
+    ensures { result ≡ numbers_fit (texts_of names.now) (rows_of (found_of matches.now)) }
 {
     for name in names {
         if !has_digits(matches, name) {

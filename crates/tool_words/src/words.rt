@@ -1,8 +1,7 @@
 //! The command that the program's words are.
 
-ghost use Rattle.std.specs.Prelude.{map, option_map, string_bytes};
-ghost use Rattle.tool_words.specs.Rows.{said_in};
-ghost use Rattle.tool_words.specs.Commands.{nothing, command_of, command_by, Says};
+ghost use Rattle.std.specs.Prelude.{map, string_bytes};
+ghost use Rattle.tool_words.specs.Commands.{alone, command_of, command_by, Says};
 
 use crate::currying::currying;
 use crate::evaluation::evaluation;
@@ -40,7 +39,7 @@ fn command_by(alloc: Global, name: &str, words: &[String]) -> Result<Command, Wo
 
 // A command that has no words.
 fn alone(alloc: Global, command: Command, words: &[String]) -> Result<Command, WordsFault>
-    ensures { Says (option_map (λ items. command) (said_in nothing (map string_bytes words.now))) result }
+    ensures { Says (alone command (map string_bytes words.now)) result }
 {
     let row = Row {
         flags: &[],

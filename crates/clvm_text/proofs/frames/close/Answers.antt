@@ -1,9 +1,8 @@
-use Rattle.std.proofs.Common.{drop, ◌∙◌, ap}
+use Rattle.std.proofs.Common.{drop}
 use Rattle.clvm_spec.specs.declared.scan_kind.ScanKind.TheVariants as kind
 use Rattle.clvm_spec.specs.Tokens.{Took, Unread, AtEnd, token_of}
 use Rattle.clvm_spec.specs.Tokens as tokens
-use Rattle.clvm_text.specs.Frames.{at_token, fault_in}
-use Rattle.clvm_text.proofs.StepLaws.{stops_at, no_end, settles_takes}
+use Rattle.clvm_text.proofs.StepLaws.{stops_at, settles_takes}
 use Rattle.clvm_text.proofs.frames.close.Goals as goal
 
 pub returns-in-None-clause-stops : goal.returns-in-None-clause-stops
@@ -11,9 +10,8 @@ returns-in-None-clause-stops c = λ text rest.
     let m = c.args.mode in
     let place = c.args.place in
     let trees = c.args.trees.now in
-    stops_at trees text c.args.frames.now.items m kind.Close place c.fault.result (at_token trees text m (Took tokens.Closing (drop place text) rest)) c.requires.within c.requires.mode_within
-    (c.fault.ensures ∙ ap (λ f. fault_in f m kind.Close place) c.as_slice.ensures.value)
-    (no_end trees text m (drop place text) rest c.in-None.ensures)
+    stops_at c.as_slice.result.now c.args.frames.now.items m kind.Close place c.fault.result c.as_slice.ensures.value c.fault.ensures trees text (Took tokens.Closing (drop place text) rest) c.requires.within c.requires.mode_within
+    (c.in-None.ensures trees text (drop place text) rest)
 
 pub returns-in-Ok-clause-takes : goal.returns-in-Ok-clause-takes
 returns-in-Ok-clause-takes c =

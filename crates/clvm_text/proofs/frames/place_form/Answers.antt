@@ -2,14 +2,14 @@ use Rattle.std.proofs.Common.{true, sym, ◌∙◌, ap, subst, arith}
 use Rattle.clvm_spec.specs.Tokens.{token_of}
 use Rattle.clvm_text.specs.declared.frames.Frame.TheVariants.{Element}
 use Rattle.clvm_text.specs.declared.frames.Mode.TheVariants as mode
-use Rattle.clvm_text.specs.Frames.{told, AreBegun, AreWithin, elements}
-use Rattle.clvm_text.proofs.FrameLaws.{AreBegun-push, AreWithin-push, elements-push}
+use Rattle.clvm_text.specs.Frames.{told, AreBegun, AreWithin, waiting}
+use Rattle.clvm_text.proofs.FrameLaws.{AreBegun-push, AreWithin-push, waiting-push}
 use Rattle.clvm_text.proofs.StepLaws.{placed, settles_places}
 use Rattle.clvm_text.proofs.frames.place_form.Goals as goal
 
 pub returns-in_ok-push-in-List-clause-few : goal.returns-in_ok-push-in-List-clause-few
 returns-in_ok-push-in-List-clause-few c =
-    omega (arith, ap elements c.in_ok-push-in-List.ensures.items, elements-push c.args.frames.now.items (Element c.args.form))
+    omega (arith, ap waiting c.in_ok-push-in-List.ensures.items, waiting-push c.args.frames.now.items (Element c.args.form))
 
 pub returns-in_ok-push-in-List-clause-places : goal.returns-in_ok-push-in-List-clause-places
 returns-in_ok-push-in-List-clause-places c = λ limit within form_within.

@@ -6,14 +6,14 @@ use Rattle.clvm_spec.proofs.GrammarLaws.{list_step}
 use Rattle.clvm_tree.proofs.NodeLaws.{grows_on}
 use Rattle.clvm_text.specs.declared.frames.Frame.TheVariants.{Whole, Inner, Element, Dot}
 use Rattle.clvm_text.specs.Forms.{formed}
-use Rattle.clvm_text.specs.Frames.{framed, resumed, AreBegun, AreWithin, elements}
-use Rattle.clvm_text.proofs.FrameLaws.{resumed-push, resumed-grows, AreBegun-grows, AreBegun-push, AreBegun-init, AreWithin-push, AreWithin-init, elements-push, no_frames}
+use Rattle.clvm_text.specs.Frames.{framed, resumed, AreBegun, AreWithin, waiting}
+use Rattle.clvm_text.proofs.FrameLaws.{resumed-push, resumed-grows, AreBegun-grows, AreBegun-push, AreBegun-init, AreWithin-push, AreWithin-init, waiting-push, no_frames}
 use Rattle.clvm_text.proofs.frames.settle.Goals as goal
 
 pub pair-requires-clause-fits : goal.pair-requires-clause-fits
 pair-requires-clause-fits c =
     let items = c.in-Some.ensures.items ∙ ap (λ f. c.pop.new.self.items ++ f ∷ []) c.in-Element.is in
-    omega (arith, ap elements items, elements-push c.pop.new.self.items (Element c.in-Element.first), c.frames.invariant.count, c.requires.fits)
+    omega (arith, ap waiting items, waiting-push c.pop.new.self.items (Element c.in-Element.first), c.frames.invariant.count, c.requires.fits)
 
 pub pair-requires-clause-first_known : goal.pair-requires-clause-first_known
 pair-requires-clause-first_known c =
@@ -24,7 +24,7 @@ pair-requires-clause-first_known c =
 pub returns-in_err-whole-in-Element-clause-few : goal.returns-in_err-whole-in-Element-clause-few
 returns-in_err-whole-in-Element-clause-few c =
     let items = c.in-Some.ensures.items ∙ ap (λ f. c.pop.new.self.items ++ f ∷ []) c.in-Element.is in
-    omega (arith, ap elements items, elements-push c.pop.new.self.items (Element c.in-Element.first), c.frames.invariant.count, ap length c.in_err-whole-in-Element.ensures.out_of_memory)
+    omega (arith, ap waiting items, waiting-push c.pop.new.self.items (Element c.in-Element.first), c.frames.invariant.count, ap length c.in_err-whole-in-Element.ensures.out_of_memory)
 
 pub frames-preserved-in-Element : goal.frames-preserved-in-Element
 frames-preserved-in-Element c =
@@ -38,7 +38,7 @@ frames-preserved-in-Element c =
     let known = AreBegun-init trees popped (Element first) (subst (AreBegun trees) items c.frames.invariant.begun) in
     record {
       grows = grows_on c.args.trees.now trees new c.frames.invariant.grows made.grows;
-      count = omega (arith, made.few, ap elements items, elements-push popped (Element first), c.frames.invariant.count);
+      count = omega (arith, made.few, ap waiting items, waiting-push popped (Element first), c.frames.invariant.count);
       known = made.known;
       begun = AreBegun-grows trees new popped made.grows known.0;
       within = λ limit h f.
@@ -59,7 +59,7 @@ frames-preserved c =
     let items = c.in-Some.ensures.items ∙ ap (λ f. popped ++ f ∷ []) c.in-Whole.is in
     record {
       grows = c.frames.invariant.grows;
-      count = omega (arith, ap elements items, elements-push popped Whole, c.frames.invariant.count);
+      count = omega (arith, ap waiting items, waiting-push popped Whole, c.frames.invariant.count);
       known = c.frames.invariant.known;
       begun = (AreBegun-init trees popped Whole (subst (AreBegun trees) items c.frames.invariant.begun)).0;
       within = λ limit h f.
@@ -74,7 +74,7 @@ pub returns-in-Inner-clause-few : goal.returns-in-Inner-clause-few
 returns-in-Inner-clause-few c =
     let popped = c.pop.new.self.items in
     let items = c.in-Some.ensures.items ∙ ap (λ f. popped ++ f ∷ []) c.in-Inner.is in
-    omega (arith, ap elements items, elements-push popped (Inner c.in-Inner.depth), ap elements c.in_ok-push-in-Inner.ensures.items, elements-push popped (Element c.frames.whole), c.frames.invariant.count)
+    omega (arith, ap waiting items, waiting-push popped (Inner c.in-Inner.depth), ap waiting c.in_ok-push-in-Inner.ensures.items, waiting-push popped (Element c.frames.whole), c.frames.invariant.count)
 
 pub returns-in-Inner-clause-settles : goal.returns-in-Inner-clause-settles
 returns-in-Inner-clause-settles c = λ limit h f.
@@ -104,7 +104,7 @@ pub returns-in-Dot-clause-few : goal.returns-in-Dot-clause-few
 returns-in-Dot-clause-few c =
     let popped = c.pop.new.self.items in
     let items = c.in-Some.ensures.items ∙ ap (λ f. popped ++ f ∷ []) c.in-Dot.is in
-    omega (arith, ap elements items, elements-push popped (Dot c.in-Dot.place), c.frames.invariant.count)
+    omega (arith, ap waiting items, waiting-push popped (Dot c.in-Dot.place), c.frames.invariant.count)
 
 pub returns-in-Dot-clause-settles : goal.returns-in-Dot-clause-settles
 returns-in-Dot-clause-settles c = λ limit h f.

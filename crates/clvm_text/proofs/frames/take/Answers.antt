@@ -1,8 +1,7 @@
-use Rattle.std.proofs.Common.{drop, sym, ◌∙◌, ap}
+use Rattle.std.proofs.Common.{drop, sym, ◌∙◌}
 use Rattle.clvm_spec.specs.declared.scan_kind.ScanKind.TheVariants as kind
 use Rattle.clvm_spec.specs.Tokens.{Took}
 use Rattle.clvm_text.specs.Leaves.{token_of_leaf}
-use Rattle.clvm_text.specs.Frames.{at_token, fault_in}
 use Rattle.clvm_text.proofs.FrameLaws.{AreBegun-grows}
 use Rattle.clvm_text.proofs.StepLaws.{stops_at, no_leaf, places_takes}
 use Rattle.clvm_text.proofs.frames.take.Goals as goal
@@ -20,6 +19,5 @@ returns-in-None-clause-stops c = λ text rest.
     let m = c.args.mode in
     let place = c.args.place in
     let trees = c.args.trees.now in
-    stops_at trees text c.args.frames.now.items m kind.Dot place c.fault.result (at_token trees text m (Took (token_of_leaf c.args.leaf) (drop place text) rest)) c.requires.within c.requires.mode_within
-    (c.fault.ensures ∙ ap (λ f. fault_in f m kind.Dot place) c.as_slice.ensures.value)
+    stops_at c.as_slice.result.now c.args.frames.now.items m kind.Dot place c.fault.result c.as_slice.ensures.value c.fault.ensures trees text (Took (token_of_leaf c.args.leaf) (drop place text) rest) c.requires.within c.requires.mode_within
     (no_leaf trees text m c.args.leaf (drop place text) rest (sym c.depth_in.ensures ∙ c.in-None.is))

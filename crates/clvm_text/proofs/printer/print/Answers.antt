@@ -8,8 +8,8 @@ use Rattle.clvm_spec.specs.Tree.{Atom}
 use Rattle.clvm_tree.specs.declared.WriteFault.TheVariants.{TooLong}
 use Rattle.clvm_text.specs.declared.printer.Pending.{Pending}
 use Rattle.clvm_text.specs.declared.printer.Position.TheVariants.{Rest}
-use Rattle.clvm_text.specs.Positions.{position_of, text_of, texts, AreKnown}
-use Rattle.clvm_text.proofs.PrintLaws.{AreKnown-init, AreKnown-push, next_printed, too_long, opening_some, pair_printed}
+use Rattle.clvm_text.specs.Positions.{position_of}
+use Rattle.clvm_text.proofs.PrintLaws.{text_of, texts, AreKnown, AreKnown-init, AreKnown-push, next_printed, too_long, opening_some, pair_printed}
 use Rattle.clvm_text.proofs.printer.print.Goals as goal
 use Rattle.clvm_text.proofs.printer.print.Goals.{In-Some}
 
@@ -77,10 +77,10 @@ pending-preserved c =
     let rest_known : c.in-Parts.rest.0 < length trees = omega (arith, parts.rest_earlier, both.1) in
     let first_known : c.in-Parts.first.0 < length trees = omega (arith, parts.first_earlier, both.1) in
     let rest : Pending = record { position = Rest; node = c.in-Parts.rest } in
-    let first : Pending = record { position = c.first_of.result; node = c.in-Parts.first } in
+    let first : Pending = record { position = c.first_position.result; node = c.in-Parts.first } in
     record {
       known = subst (AreKnown trees) (sym c.in_ok-push-in-Parts-3.ensures.items) (AreKnown-push trees after first (subst (AreKnown trees) (sym c.in_ok-push-in-Parts-2.ensures.items) (AreKnown-push trees popped rest both.0 rest_known)) first_known);
       within = c.in_ok-push-in-Parts.ensures.within;
-      written = pair_printed trees (string_bytes c.pending.text) (string_bytes c.push-in-Parts.new.text) (printed (tree_at trees c.args.node.0)) popped after c.push-in-Parts-3.new.self.items c.in-Some.next first rest parts refl c.first_of.ensures
+      written = pair_printed trees (string_bytes c.pending.text) (string_bytes c.push-in-Parts.new.text) (printed (tree_at trees c.args.node.0)) popped after c.push-in-Parts-3.new.self.items c.in-Some.next first rest parts refl c.first_position.ensures
           (c.in_ok-push-in-Parts.ensures.ok ∙ ap (λ o. string_bytes c.pending.text ++ o) c.opening.ensures) c.in_ok-push-in-Parts-2.ensures.items c.in_ok-push-in-Parts-3.ensures.items (written at);
     }

@@ -2,7 +2,7 @@ use Rattle.std.proofs.Common.{◌≡◌, ◌+◌, ◌-◌, ◌*◌, ◌≤◌, �
 use Rattle.std.specs.Prelude.{string_bytes, string_len}
 use Rattle.clvm_spec.specs.Text.{printed}
 use Rattle.clvm_tree.specs.Nodes.{tree_at}
-use Rattle.clvm_text.specs.Positions.{texts, AreKnown}
+use Rattle.clvm_text.proofs.PrintLaws.{texts, AreKnown}
 use Rattle.clvm_text.proofs.printer.print.Given as goal
 
 abbrev pub invariant-pending : goal.invariant-pending

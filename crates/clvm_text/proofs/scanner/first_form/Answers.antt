@@ -1,12 +1,11 @@
-use Rattle.std.proofs.Common.{◌-◌, ◌≤◌, length, sym, ◌∙◌, ap, subst, arith}
-use Rattle.clvm_spec.specs.declared.scan_kind.ScanKind.TheVariants as kind
+use Rattle.std.proofs.Common.{◌-◌, ◌≤◌, length, sym, ap, subst, arith}
 use Rattle.clvm_spec.specs.Places.{place_of}
 use Rattle.clvm_spec.specs.Tokens.{token_of}
 use Rattle.clvm_tree.proofs.NodeLaws.{grows_same, grows_on}
 use Rattle.text_tokens.proofs.EndLaws.{IsEnd-itself, IsEnd-within}
 use Rattle.text_tokens.specs.Meanings.{meant}
 use Rattle.clvm_text.specs.declared.frames.Mode.TheVariants as mode
-use Rattle.clvm_text.specs.Frames.{told, AreBegun, AreWithin, elements, Takes, Stops, fault_in}
+use Rattle.clvm_text.specs.Frames.{told, AreBegun, AreWithin, waiting, Takes, Stops}
 use Rattle.clvm_text.proofs.FrameLaws.{frames_later, mode_later}
 use Rattle.clvm_text.proofs.ScanningLaws.{done_form, goes_form, stops_form, unread_form, ended_form}
 use Rattle.clvm_text.proofs.scanner.first_form.Goals as goal
@@ -18,7 +17,7 @@ tokens-init c =
     let items = c.new-frames.ensures.items in
     record {
       grows = grows_same trees;
-      count = omega (arith, ap elements items);
+      count = omega (arith, ap waiting items);
       begun = subst (AreBegun trees) (sym items) tt;
       known = tt;
       end = IsEnd-itself text;
@@ -37,10 +36,10 @@ returns-in-Unread-clause-broken c =
     let what = c.in-Unread.kind in
     let ends = c.in-Unread.ensures.ends in
     let later : length text - length rest ≤ place_of text from = omega (arith, ends.within) in
-    unread_form c.tokens.trees text rest from frames awaited what c.fault.result (IsEnd-within from rest text ends c.tokens.invariant.end) (sym c.in-Unread.ensures.front) c.tokens.invariant.same
+    unread_form c.tokens.trees text rest from c.as_slice.result.now frames awaited what c.place_of.result c.fault.result (IsEnd-within from rest text ends c.tokens.invariant.end) (sym c.in-Unread.ensures.front) c.tokens.invariant.same
     (frames_later (length text - length rest) (place_of text from) frames later c.tokens.invariant.within)
     (mode_later (length text - length rest) (place_of text from) awaited later c.tokens.invariant.mode_within)
-    (c.fault.ensures ∙ ap (λ f. fault_in f awaited what c.place_of.result) c.as_slice.ensures.value ∙ ap (fault_in frames awaited what) c.place_of.ensures)
+    c.as_slice.ensures.value c.place_of.ensures c.fault.ensures
 
 pub returns-in-AtEnd-clause-broken : goal.returns-in-AtEnd-clause-broken
 returns-in-AtEnd-clause-broken c =
@@ -49,10 +48,10 @@ returns-in-AtEnd-clause-broken c =
     let frames = c.tokens.frames.items in
     let awaited = c.tokens.mode in
     let later : length text - length rest ≤ length text = omega arith in
-    ended_form c.tokens.trees text rest frames awaited c.fault-in-AtEnd.result (sym c.in-AtEnd.ensures.front) c.tokens.invariant.same
+    ended_form c.tokens.trees text rest c.as_slice-in-AtEnd.result.now frames awaited c.fault-in-AtEnd.result (sym c.in-AtEnd.ensures.front) c.tokens.invariant.same
     (frames_later (length text - length rest) (length text) frames later c.tokens.invariant.within)
     (mode_later (length text - length rest) (length text) awaited later c.tokens.invariant.mode_within)
-    (c.fault-in-AtEnd.ensures ∙ ap (λ f. fault_in f awaited kind.End (length text)) c.as_slice-in-AtEnd.ensures.value)
+    c.as_slice-in-AtEnd.ensures.value c.fault-in-AtEnd.ensures
 
 pub advance-requires-clause-within : goal.advance-requires-clause-within
 advance-requires-clause-within c =

@@ -2,14 +2,14 @@ use Rattle.std.proofs.Common.{◌≡◌, ◌+◌, ◌-◌, ◌*◌, ◌≤◌, l
 use Rattle.clvm_spec.specs.Tokens.{token_of}
 use Rattle.clvm_spec.specs.Text.{form_of}
 use Rattle.clvm_tree.specs.Nodes.{Grows}
-use Rattle.clvm_text.specs.Frames.{told, AreBegun, IsMode, AreWithin, IsModeWithin, elements}
+use Rattle.clvm_text.specs.Frames.{told, AreBegun, IsMode, AreWithin, IsModeWithin, waiting}
 use Rattle.text_tokens.specs.Ends.{IsEnd}
 use Rattle.clvm_text.proofs.scanner.first_form.Given as goal
 
 abbrev pub invariant-tokens : goal.invariant-tokens
 invariant-tokens l = record {
   grows : Grows l.fn.trees l.trees;
-  count : length l.trees + elements l.frames.items + 2 * length l.rest ≤ length l.fn.trees + 2 * length l.text;
+  count : length l.trees + waiting l.frames.items + 2 * length l.rest ≤ length l.fn.trees + 2 * length l.text;
   begun : AreBegun l.trees l.frames.items;
   known : IsMode l.trees l.mode;
   end : IsEnd l.rest l.text;

@@ -1,8 +1,11 @@
-use Rattle.std.proofs.Common.{rules, tests}
+use Rattle.std.proofs.Common.{◌∙◌, sym, rules, tests}
 use Rattle.std.specs.Char.{is_ascii_digit}
 use Rattle.std.proofs.lemmas.Iterator.{YieldsList-from_slice}
 use Rattle.std.proofs.lemmas.Iterator.Search.{all_from_yields_List}
+use Rattle.text_tokens.proofs.WordLaws.{all_digits}
 use Rattle.text_tokens.proofs.words.are_digits.Goals as goal
 
 pub returns : goal.returns
-returns c = all_from_yields_List is_ascii_digit _ _ _ c.all.ensures.ran (YieldsList-from_slice c.args.digits.now cc) (λ x b q k. search (rules, tests))
+returns c =
+    all_from_yields_List is_ascii_digit _ _ _ c.all.ensures.ran (YieldsList-from_slice c.args.digits.now cc) (λ x b q k. search (rules, tests))
+    ∙ sym (all_digits c.args.digits.now)

@@ -1,10 +1,10 @@
-use Rattle.std.proofs.Common.{length, ap, arith}
+use Rattle.std.proofs.Common.{length, ap, arith, leb-true}
 use Rattle.std.specs.List.{sum_by}
 use Rattle.tool_curry.proofs.line.curry_input.Goals as goal
 
 pub read_arguments-requires : goal.read_arguments-requires
 read_arguments-requires c =
-    omega (arith, c.read_input.ensures.few, ap length c.new-trees.ensures, c.requires, ap (sum_by length) c.as_slice.ensures.value, c.as_slice.ensures.short)
+    omega (arith, c.read_input.ensures.few, ap length c.new-trees.ensures, c.requires, ap (sum_by length) c.as_slice.ensures.value, leb-true _ _ c.as_slice.ensures.short)
 
 pub curry-requires-clause-fits : goal.curry-requires-clause-fits
 curry-requires-clause-fits c =
@@ -14,7 +14,7 @@ curry-requires-clause-fits c =
       ap length c.new-trees.ensures,
       c.requires,
       ap (sum_by length) c.as_slice.ensures.value,
-      c.as_slice.ensures.short,
+      leb-true _ _ c.as_slice.ensures.short,
       c.as_slice.ensures.few,
       ap length c.as_slice.ensures.value,
       c.read_arguments.ensures.few,

@@ -1,12 +1,11 @@
 use Rattle.std.proofs.Common.{◌≡◌, drop}
-use Rattle.std.specs.List.{list_all}
-use Rattle.clap.specs.Walk.{first_of, rows_of}
+use Rattle.clap.specs.Walk.{rows_of}
 use Rattle.clap.specs.Matches.{found_of}
-use Rattle.tool_words.specs.Parser.{digits_at, texts_of}
+use Rattle.tool_words.specs.Parser.{texts_of}
+use Rattle.tool_words.specs.Fits.{numbers_fit}
 use Rattle.tool_words.proofs.parse.have_digits.Given as goal
 
 -- the names behind these tell for all
 abbrev pub invariant-loop-name : goal.invariant-loop-name
 invariant-loop-name l =
-    list_all (λ name. digits_at (first_of name (rows_of (found_of l.matches)))) (texts_of (drop l.name-index l.names))
-    ≡ list_all (λ name. digits_at (first_of name (rows_of (found_of l.matches)))) (texts_of l.names)
+    numbers_fit (texts_of (drop l.name-index l.names)) (rows_of (found_of l.matches)) ≡ numbers_fit (texts_of l.names) (rows_of (found_of l.matches))

@@ -2,7 +2,7 @@ use Rattle.std.proofs.Common.{length, sym, ◌∙◌, ap}
 use Rattle.std.specs.Prelude.{nat_eq}
 use Rattle.clvm_spec.proofs.NumberLaws.{all_bytes}
 use Rattle.clvm_text.proofs.PrintLaws.{short_is, same_length}
-use Rattle.clvm_text.proofs.printer.is_short_number.Goals as goal
+use Rattle.clvm_text.proofs.printer.is_decimal.Goals as goal
 
 pub returns-then-bytes-le2 : goal.returns-then-bytes-le2
 returns-then-bytes-le2 c =
