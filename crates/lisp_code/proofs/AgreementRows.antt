@@ -2,8 +2,8 @@
 use Rattle.std.proofs.Common.{◌≡◌, ℕ, zero, suc, ◌+◌, ◌*◌, ℤ, pos, ◌+ℤ◌, Bool, true, false, cond, Option, Some, None, List, [], ◌∷◌, length, map, refl, sym, ap, ◌∙◌, subst, arith}
 use Rattle.clvm_spec.specs.declared.fuel.Fuel.{Fuel}
 use Rattle.clvm_spec.specs.Tree.{Tree, Atom, Pair}
-use Rattle.clvm_spec.specs.Arithmetic.{fits_128, if_fits}
-use Rattle.clvm_spec.specs.Operators.{numbers_from, from_left, or_wide, new_number, new_atom, written, lengths}
+use Rattle.clvm_spec.specs.Arithmetic.{if_fits}
+use Rattle.clvm_spec.specs.Operators.{number_at, each_read, from_left, or_wide, new_number, new_atom, written, terms_cost}
 use Rattle.clvm_spec.specs.Numbers.{number, shortest_atom, without_sign_bytes, is_short}
 use Rattle.clvm_spec.specs.Path.{followed}
 use Rattle.clvm_spec.specs.Reading.{head_at, tree_at_front}
@@ -96,17 +96,17 @@ new_number_ends cost n = or_wide_ends (if_fits n) (λ n. written cost (shortest_
 
 from_left_ends : (step : ℤ → ℤ → ℤ) (so_far : ℤ) (ns : List ℤ) (go : ℤ → Applied) → ((n : ℤ) → not_out (go n)) → not_out (from_left step so_far ns go)
 from_left_ends step so_far [] go p = p so_far
-from_left_ends step so_far (n ∷ ns) go p = either_ends (fits_128 (step so_far n)) (from_left step (step so_far n) ns go) TooWide (from_left_ends step (step so_far n) ns go p) too_wide_ends
+from_left_ends step so_far (n ∷ ns) go p = or_wide_ends (if_fits (step so_far n)) (λ next. from_left step next ns go) (λ next. from_left_ends step next ns go p)
 
-numbers_end : (place : ℕ) (operands : List Tree) (go : List (List ℕ) → Applied) → ((atoms : List (List ℕ)) → not_out (go atoms)) → not_out (numbers_from place operands go)
+numbers_end : (place : ℕ) (operands : List Tree) (go : List (List ℕ) → Applied) → ((atoms : List (List ℕ)) → not_out (go atoms)) → not_out (each_read number_at place operands go)
 unfolding not_out
 numbers_end place [] go p = p []
 numbers_end place (Pair a b ∷ operands) go p = λ e. cc
 numbers_end place (Atom bytes ∷ operands) go p =
-    either_ends (is_short bytes) (numbers_from (suc place) operands (λ more. go (bytes ∷ more))) TooWide (numbers_end (suc place) operands (λ more. go (bytes ∷ more)) (λ more. p (bytes ∷ more))) too_wide_ends
+    either_ends (is_short bytes) (each_read number_at (suc place) operands (λ more. go (bytes ∷ more))) TooWide (numbers_end (suc place) operands (λ more. go (bytes ∷ more)) (λ more. p (bytes ∷ more))) too_wide_ends
 
 abbrev sum_cost : List (List ℕ) → ℕ
-sum_cost atoms = 99 + 320 * length atoms + 3 * lengths atoms
+sum_cost atoms = 99 + terms_cost atoms
 
 sum_ends : (a : Tree) → sum_with_one a ≡ Out → ⊥
 unfolding not_out applied operator_of

@@ -1,11 +1,12 @@
 -- What code gives, its source means.
 use Rattle.std.proofs.Common.{◌≡◌, ℕ, zero, suc, ◌+◌, ◌==◌, ◌<◌, ◌≤◌, Bool, true, false, cond, List, [], ◌∷◌, map, Option, Some, None, option_map, codes, refl, sym, ap, subst, arith}
 use Rattle.clvm_spec.specs.declared.fuel.Fuel.{Fuel}
-use Rattle.clvm_spec.specs.Spending.{Spending, Suffices}
+use Rattle.clvm_spec.specs.Spending.{Spending}
 use Rattle.clvm_spec.specs.Tree.{Tree, Atom, Pair, list_tree}
 use Rattle.clvm_spec.specs.Outcomes.{Outcome}
 use Rattle.clvm_spec.specs.OperatorTable.{applied}
 use Rattle.clvm_spec.specs.Evaluation.{evaluation, run_outcome}
+use Rattle.clvm_spec.proofs.SpendingLaws.{Covers}
 use Rattle.lisp_spec.specs.Forms.{Form, Place}
 use Rattle.lisp_spec.specs.Forms as form
 use Rattle.lisp_spec.specs.Modules.{Module, Definition, Constant, definition_named, constant_named}
@@ -61,8 +62,8 @@ run_covered : (m : ℕ) (program env : Tree) → Covered (plain m program env) (
 run_covered m program env =
     let it = fuel_is_enough m program env in
     let n = it.need.cost + it.need.pairs + it.need.bytes + it.deep in
-    let suffices : Suffices (all_counts n) it.need = record { cost = omega arith; pairs = omega arith; bytes = omega arith } in
-    (n, reached it.need (all_counts n) (plain m program env) (evaluation program env 0 (all_counts n)) (it.holds 0 (all_counts n) suffices (omega arith)))
+    let enough : Covers (all_counts n) it.need = record { cost = omega arith; pairs = omega arith; bytes = omega arith } in
+    (n, reached it.need (all_counts n) (plain m program env) (evaluation program env 0 (all_counts n)) (it.holds 0 (all_counts n) enough (omega arith)))
 
 values_run : (m : ℕ) (values : List Tree) → Covered (plain_run (plain m) values) (λ n. run_values n values)
 values_run m [] = (0, same Failed)

@@ -5,8 +5,9 @@ use Rattle.clvm_spec.specs.Tree.{Tree}
 use Rattle.clvm_spec.specs.Outcomes as run
 use Rattle.clvm_spec.specs.Outcomes.{Outcome, Why}
 use Rattle.clvm_spec.specs.Evaluation.{evaluation}
-use Rattle.clvm_spec.specs.Spending.{Spending, Suffices, fuel_less}
+use Rattle.clvm_spec.specs.Spending.{Spending, fuel_less}
 use Rattle.clvm_spec.specs.FuelLaws.{IsAtLeast}
+use Rattle.clvm_spec.proofs.SpendingLaws.{Covers}
 use Rattle.lisp_spec.specs.Meaning.{Meaning, Value, Failed, Wide, Out}
 use Rattle.lisp_code.proofs.Plain.{plain}
 
@@ -20,7 +21,7 @@ pub data Reaches (need : Spending) (fuel : Fuel) : Meaning → Outcome → Type 
 pub record Enough (m : Meaning) (run : ℕ → Fuel → Outcome) : Type 0 where
   pub need : Spending
   pub deep : ℕ
-  pub holds : (depth : ℕ) (fuel : Fuel) → Suffices fuel need → depth + deep ≤ fuel.depth → Reaches need fuel m (run depth fuel)
+  pub holds : (depth : ℕ) (fuel : Fuel) → Covers fuel need → depth + deep ≤ fuel.depth → Reaches need fuel m (run depth fuel)
 
 abbrev pub FuelIsEnough : Type 0
 FuelIsEnough = (n : ℕ) (program env : Tree) → Enough (plain n program env) (evaluation program env)

@@ -1,16 +1,18 @@
 -- Enough fuel lets a run end as the plain evaluation does.
-use Rattle.std.proofs.Common.{◌≡◌, ℕ, zero, suc, ◌+◌, ◌-◌, ◌≤◌, Bool, true, false, cond, ltb, List, [], ◌∷◌, Option, Some, None, refl, sym, ◌∙◌, subst, arith}
-use Rattle.std.proofs.lemmas.Bool.{cond-true, cond-false, le-ltb, lt-ltb}
+use Rattle.std.proofs.Common.{◌≡◌, ℕ, zero, suc, ◌+◌, ◌-◌, ◌<◌, ◌≤◌, Bool, true, false, cond, ltb, nat_lt, nat_le, List, [], ◌∷◌, length, Option, Some, None, refl, sym, subst, arith}
+use Rattle.std.proofs.lemmas.Bool.{and_right, cond-false, le-ltb}
+use Rattle.std.proofs.lemmas.Bool.Decides.{nat_tests}
 use Rattle.clvm_spec.specs.declared.fuel.Fuel.{Fuel}
 use Rattle.clvm_spec.specs.Tree.{Tree, Atom, Pair}
 use Rattle.clvm_spec.specs.ProperList.{elements}
 use Rattle.clvm_spec.specs.Path.{PathValue, Reached, Astray, path_value, path_cost}
 use Rattle.clvm_spec.specs.Outcomes as run
 use Rattle.clvm_spec.specs.Outcomes.{Outcome, Applied, Gives, Fails, TooWide, NoStep, NotAList, WrongCount, NoOperator}
-use Rattle.clvm_spec.specs.OperatorTable.{applied, within}
-use Rattle.clvm_spec.specs.Evaluation.{if_done, charge, is_byte, at_path, Evaluator, goes_on, in_form, apply_values, values_of, deeper, operator_form, evaluated_by, evaluation}
-use Rattle.clvm_spec.specs.Spending.{Spending, Suffices, fuel_less}
+use Rattle.clvm_spec.specs.OperatorTable.{applied, unless_lacking, within}
+use Rattle.clvm_spec.specs.Evaluation.{if_done, charge, is_byte, at_path, Evaluator, goes_on, in_form, apply_values, values_of, is_too_deep, deeper, operator_form, evaluated_by, evaluation}
+use Rattle.clvm_spec.specs.Spending.{Spending, fuel_less}
 use Rattle.clvm_spec.specs.FuelLaws.{IsAtLeast}
+use Rattle.clvm_spec.proofs.SpendingLaws.{Covers, covered}
 use Rattle.clvm_spec.proofs.Steps.{one_step_law}
 use Rattle.lisp_spec.specs.Meaning.{Meaning, Value, Failed, Wide, Out, if_value, operator_meaning}
 use Rattle.lisp_code.proofs.Plain.{Runs, path_meaning, plain_run, plain_apply, plain_values, plain_form, plain_by, plain}
@@ -58,19 +60,22 @@ enough_charge cost m go e = record {
       (e.holds depth left (record { cost = omega arith; pairs = omega arith; bytes = omega arith }) d));
 }
 
+below_limit : (count depth limit : ℕ) → depth < limit → is_too_deep count depth limit ≡ false
+below_limit count depth limit h = and_right (nat_lt 0 count) (nat_le limit depth) (grind (arith, nat_tests))
+
 enough_when_deeper : (operands : List Tree) (m : Meaning) (go : ℕ → Fuel → Outcome) → Enough m go → Enough m (λ depth fuel. deeper operands depth fuel (go depth))
-enough_when_deeper [] m go e = e
-enough_when_deeper (operand ∷ operands) m go e = record {
+enough_when_deeper operands m go e = record {
   need = e.need;
   deep = suc e.deep;
   holds = λ depth fuel s d.
-      subst (Reaches e.need fuel m) (sym (cond-true (ltb depth fuel.depth) _ _ (lt-ltb depth fuel.depth (omega arith)))) (e.holds depth fuel s (omega arith));
+      subst (Reaches e.need fuel m) (sym (cond-false (is_too_deep (length operands) depth fuel.depth) _ _ (below_limit (length operands) depth fuel.depth (omega arith))))
+      (e.holds depth fuel s (omega arith));
 }
 
 -- one after another
 reaches_then : (a b : Spending) (deep : ℕ) (depth : ℕ) (fuel : Fuel) (v : Tree) (o : Outcome) (go : Tree → Fuel → Outcome) (m : Meaning) →
-    ((left : Fuel) → Suffices left b → depth + deep ≤ left.depth → Reaches b left m (go v left)) →
-    Suffices fuel (both a b) → depth + deep ≤ fuel.depth → (w : Meaning) → w ≡ Value v → Reaches a fuel w o → Reaches (both a b) fuel m (if_done o go)
+    ((left : Fuel) → Covers left b → depth + deep ≤ left.depth → Reaches b left m (go v left)) →
+    Covers fuel (both a b) → depth + deep ≤ fuel.depth → (w : Meaning) → w ≡ Value v → Reaches a fuel w o → Reaches (both a b) fuel m (if_done o go)
 reaches_then a b deep depth fuel v o go m next s d w e (value u left h) =
     let same : u ≡ v = cc in
     let c = s.cost in let p = s.pairs in let y = s.bytes in let hc = h.cost in let hp = h.pairs in let hb = h.bytes in let hd = h.depth in
@@ -119,9 +124,7 @@ enough_operator form (Gives v cost pairs bytes) = record {
   need = spends cost pairs bytes;
   deep = 0;
   holds = λ depth fuel s d.
-      let gives : within fuel (Gives v cost pairs bytes) ≡ run.Enough (Gives v cost pairs bytes) =
-      cond-false (ltb fuel.cost cost) _ _ (le-ltb fuel.cost cost s.cost) ∙ cond-false (ltb fuel.pairs pairs) _ _ (le-ltb fuel.pairs pairs s.pairs) ∙ cond-false (ltb fuel.bytes bytes) _ _ (le-ltb fuel.bytes bytes s.bytes) in
-      subst (λ a. Reaches (spends cost pairs bytes) fuel (Value v) (in_form form fuel a)) (sym gives)
+      subst (λ l. Reaches (spends cost pairs bytes) fuel (Value v) (in_form form fuel (unless_lacking l (Gives v cost pairs bytes)))) (sym (covered fuel (spends cost pairs bytes) s))
       (value v _ (record { cost = omega arith; pairs = omega arith; bytes = omega arith; depth = omega arith }));
 }
 enough_operator form (Fails why) = enough_failed why form

@@ -4,7 +4,8 @@ use Rattle.std.proofs.lemmas.Bool.{cases_Bool, cond-true, cond-false, and_parts,
 use Rattle.std.proofs.lemmas.Slice.Eq.{bytes_eq-Decides}
 use Rattle.std.specs.List.{list_all}
 use Rattle.clvm_spec.specs.Tree.{Tree}
-use Rattle.clvm_spec.specs.OperatorTable.{Any, Operator, operator, quote_cost, by_evaluation, operators, operator_named}
+use Rattle.clvm_spec.specs.declared.operands.Operands.TheVariants.{Any}
+use Rattle.clvm_spec.specs.OperatorTable.{Operator, operator, quote_cost, by_evaluation, operators, operator_named}
 use Rattle.lisp_spec.specs.Forms.{Form, Place}
 use Rattle.lisp_spec.specs.Modules.{Definition, definition_named}
 use Rattle.lisp_spec.specs.Heads.{Head, Operates, head_of, operator_head, is_q, is_quote, is_qq, is_unquote, is_if, is_list}

@@ -1,18 +1,19 @@
 -- The costed evaluation says nothing other than the plain one.
-use Rattle.std.proofs.Common.{ℕ, zero, suc, Bool, true, false, cond, ltb, List, [], ◌∷◌, Option, Some, None, subst}
+use Rattle.std.proofs.Common.{ℕ, zero, suc, Bool, true, false, cond, ltb, List, [], ◌∷◌, length, Option, Some, None, subst}
 use Rattle.clvm_spec.specs.declared.fuel.Fuel.{Fuel}
+use Rattle.clvm_spec.specs.declared.fuel.Which.{Which}
 use Rattle.clvm_spec.specs.Tree.{Tree, Atom, Pair}
 use Rattle.clvm_spec.specs.ProperList.{elements}
 use Rattle.clvm_spec.specs.Path.{PathValue, Reached, Astray, path_value, path_cost}
 use Rattle.clvm_spec.specs.Outcomes as run
-use Rattle.clvm_spec.specs.Outcomes.{Outcome, Applied, Gives, Fails, TooWide, WithinFuel}
-use Rattle.clvm_spec.specs.OperatorTable.{applied, within}
-use Rattle.clvm_spec.specs.Evaluation.{if_done, charge, is_byte, at_path, Evaluator, goes_on, in_form, apply_values, values_of, deeper, operator_form, evaluated_by, evaluated_within, evaluation}
+use Rattle.clvm_spec.specs.Outcomes.{Outcome, Applied, Gives, Fails, TooWide, Enough}
+use Rattle.clvm_spec.specs.OperatorTable.{applied, unless_lacking, within}
+use Rattle.clvm_spec.specs.Evaluation.{if_done, charge, is_byte, at_path, Evaluator, goes_on, in_form, apply_values, values_of, is_too_deep, deeper, operator_form, evaluated_by, evaluated_within, evaluation}
+use Rattle.clvm_spec.specs.Spending.{lack}
 use Rattle.lisp_spec.specs.Meaning.{Meaning, Value, Failed, Wide, if_value, run_meaning, operator_meaning}
 use Rattle.lisp_code.proofs.Refining.{Refines, out, same}
 use Rattle.lisp_code.proofs.Plain.{Runs, path_meaning, plain_run, plain_apply, plain_values, plain_form, plain_by, plain}
 use Rattle.lisp_code.proofs.Refined.{settled}
-use Rattle.std.proofs.lemmas.Bool.{cond_both}
 
 -- A run says at most this.
 AtMost : (Fuel → Outcome) → Meaning → Type 0
@@ -28,8 +29,7 @@ most_charge cost go m p fuel = either_outcome (ltb fuel.cost cost) _ _ m (out m)
 
 most_deeper : (operands : List Tree) (depth : ℕ) (go : Fuel → Outcome) (m : Meaning) → AtMost go m → AtMost (λ fuel. deeper operands depth fuel go) m
 unfolding AtMost
-most_deeper [] depth go m p fuel = p fuel
-most_deeper (operand ∷ operands) depth go m p fuel = either_outcome (ltb depth fuel.depth) _ _ m (p fuel) (out m)
+most_deeper operands depth go m p fuel = either_outcome (is_too_deep (length operands) depth fuel.depth) _ _ m (out m) (p fuel)
 
 most_then : (o : Outcome) (m : Meaning) (go : Tree → Fuel → Outcome) (go' : Tree → Meaning) → Refines (run_meaning o) m → ((v : Tree) → AtMost (go v) (go' v)) → Refines (run_meaning (if_done o go)) (if_value m go')
 unfolding AtMost
@@ -47,13 +47,14 @@ most_values value value' p (operand ∷ operands) go go' q =
     most_values value value' p operands (λ values fuel. if_done (value operand fuel) (λ v last. go (v ∷ values) last)) (λ values. if_value (value' operand) (λ v. go' (v ∷ values)))
     (λ values fuel. most_then (value operand fuel) (value' operand) (λ v. go (v ∷ values)) (λ v. go' (v ∷ values)) (p operand fuel) (λ v. q (v ∷ values)))
 
+unless_lacking_says : (form : Tree) (a : Applied) (m : Meaning) (fuel : Fuel) (l : Option Which) → Refines (run_meaning (in_form form fuel (Enough a))) m → Refines (run_meaning (in_form form fuel (unless_lacking l a))) m
+unless_lacking_says form a m fuel None r = r
+unless_lacking_says form a m fuel (Some which) r = out m
+
 most_operator : (form : Tree) (a : Applied) → AtMost (λ fuel. in_form form fuel (within fuel a)) (operator_meaning a)
 unfolding AtMost
 most_operator form (Gives value cost pairs bytes) fuel =
-    let P = λ (a : WithinFuel). Refines (run_meaning (in_form form fuel a)) (Value value) in
-    cond_both (ltb fuel.cost cost) _ _ P (λ e. out _)
-    (λ e. cond_both (ltb fuel.pairs pairs) _ _ P (λ e. out _)
-    (λ e. cond_both (ltb fuel.bytes bytes) _ _ P (λ e. out _) (λ e. same (Value value))))
+    unless_lacking_says form (Gives value cost pairs bytes) (Value value) fuel (lack (record { cost = cost; pairs = pairs; bytes = bytes }) fuel) (same (Value value))
 most_operator form (Fails why) fuel = same Failed
 most_operator form TooWide fuel = same Wide
 

@@ -10,11 +10,12 @@ use Rattle.lisp_read.specs.declared.fault.ReadAt.TheVariants.{At, OutOfMemory}
 use Rattle.lisp_read.specs.declared.lists.OpenList.{OpenList}
 use Rattle.lisp_read.specs.Forms.{Form}
 use Rattle.lisp_read.specs.Views.{form_of}
-use Rattle.lisp_read.specs.Grammar.{Places, ParsedForm, Read, Reads, Unreadable, with_form, with_forms, forms_from}
+use Rattle.lisp_read.specs.Grammar.{Places, ParsedForm, Read, Reads, Unreadable, with_form, with_forms, forms_at, forms_from}
 use Rattle.lisp_read.specs.Laws.{after}
 use Rattle.lisp_read.specs.Faults.{IsReadFault}
-use Rattle.lisp_read.specs.OpenLists.{told, IsFault, Leads, read_on}
+use Rattle.lisp_read.specs.OpenLists.{told, IsFirstFault, IsBroken, Leads}
 use Rattle.lisp_read.proofs.BoundLaws.{forms_step}
+use Rattle.lisp_read.proofs.ListLaws.{broken}
 use Rattle.lisp_read.proofs.StepLaws.{end_told}
 
 -- ---- forms before what is read
@@ -32,6 +33,10 @@ after_fault [] what at = refl
 after_fault (f ∷ forms) what at = ap (with_form f) (after_fault forms what at)
 
 -- ---- what is read on
+
+abbrev pub read_on : Places → List OpenList → Front → Read
+read_on there [] front = forms_at there (forms_from there) front
+read_on there (list ∷ inner) front = with_forms (forms_from there) (told there 0 (list ∷ inner) front)
 
 took : (there : Places) (items : List OpenList) (token : Token) (from rest : List ℕ) → read_on there items (Took token from rest) ≡ with_forms (forms_from there) (told there 0 items (Took token from rest))
 took there [] token from rest = refl
@@ -53,12 +58,12 @@ gives there items new token from rest form h =
 
 -- ---- faults
 
-fault_read : (forms : List Form) (read : Read) (more : List ℕ → Read) (fault : ReadAt) (parsed : ParsedForm) → read ≡ after forms (with_forms more parsed) → IsFault fault parsed → IsReadFault read fault
+fault_read : (forms : List Form) (read : Read) (more : List ℕ → Read) (fault : ReadAt) (parsed : ParsedForm) → read ≡ after forms (with_forms more parsed) → IsBroken fault parsed → IsReadFault read fault
 fault_read forms read more (At what at) parsed e h = e ∙ ap (λ p. after forms (with_forms more p)) h.2 ∙ after_fault forms what h.0.at ∙ ap (Unreadable what) h.1
 fault_read forms read more OutOfMemory parsed e h = tt
 
 pub token_stops : (there : Places) (forms : List Form) (read : Read) (items : List OpenList) (token : Token) (from rest : List ℕ) (fault : ReadAt) → read ≡ after forms (read_on there items (Took token from rest)) →
-    IsFault fault (told there 0 items (Took token from rest)) → IsReadFault read fault
+    IsBroken fault (told there 0 items (Took token from rest)) → IsReadFault read fault
 token_stops there forms read items token from rest fault e h =
     fault_read forms read (forms_from there) fault (told there 0 items (Took token from rest)) (e ∙ ap (after forms) (took there items token from rest)) h
 
@@ -67,15 +72,17 @@ unread_told there [] what from = refl
 unread_told there (l ∷ items) what from = refl
 
 pub unread_stops : (there : Places) (forms : List Form) (read : Read) (items : List OpenList) (what : ScanKind) (from : List ℕ) (fault : ReadAt) → read ≡ after forms (read_on there items (Unread what from)) →
-    IsFault fault (told there 0 items (Unread what from)) → IsReadFault read fault
+    IsFirstFault fault (told there 0 items (Unread what from)) → IsReadFault read fault
 unread_stops there forms read items what from fault e h =
-    fault_read forms read (forms_from there) fault (told there 0 items (Unread what from)) (e ∙ ap (after forms) (unread_told there items what from)) h
+    fault_read forms read (forms_from there) fault (told there 0 items (Unread what from)) (e ∙ ap (after forms) (unread_told there items what from))
+    (broken fault (told there 0 items (Unread what from)) h)
 
 pub end_stops : (there : Places) (forms : List Form) (read : Read) (items : List OpenList) (fault : ReadAt) → read ≡ after forms (read_on there items AtEnd) → 0 < length items →
-    IsFault fault (told there 0 items (Unread kind.End [])) → IsReadFault read fault
+    IsFirstFault fault (told there 0 items (Unread kind.End [])) → IsReadFault read fault
 end_stops there forms read items fault e some h =
     fault_read forms read (forms_from there) fault (told there 0 items (Unread kind.End []))
-    (e ∙ ap (after forms) (where_open there items AtEnd some) ∙ ap (λ p. after forms (with_forms (forms_from there) p)) (end_told there items)) h
+    (e ∙ ap (after forms) (where_open there items AtEnd some) ∙ ap (λ p. after forms (with_forms (forms_from there) p)) (end_told there items))
+    (broken fault (told there 0 items (Unread kind.End [])) h)
 
 pub end_reads : (there : Places) (forms : List Form) (read : Read) (items : List OpenList) → read ≡ after forms (read_on there items AtEnd) → items ≡ [] → read ≡ Reads forms
 end_reads there forms read items e none = e ∙ ap (λ l. after forms (read_on there l AtEnd)) none ∙ after_all forms

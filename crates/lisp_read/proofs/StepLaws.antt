@@ -1,6 +1,6 @@
 -- Where the steps of reading lead to, by the lists that are open.
 use Rattle.std.specs.Prelude.{Option, Result, Ok, Err, IfOk, IfErr}
-use Rattle.std.proofs.Common.{◌≡◌, ℕ, suc, ◌+◌, ◌<◌, true, List, [], ◌∷◌, ◌++◌, length, refl, sym, ◌∙◌, ap, subst, arith}
+use Rattle.std.proofs.Common.{◌≡◌, ℕ, suc, ◌+◌, ◌<◌, List, [], ◌∷◌, ◌++◌, length, None, refl, sym, ◌∙◌, ap, subst, arith}
 use Rattle.clvm_spec.specs.declared.scan_kind.ScanKind.{ScanKind}
 use Rattle.clvm_spec.specs.declared.scan_kind.ScanKind.TheVariants as kind
 use Rattle.clvm_spec.specs.Tokens.{Front, Token, Opening, Closing, Point, Literal, Took, Unread, AtEnd, token_of}
@@ -13,10 +13,10 @@ use Rattle.lisp_read.specs.declared.lists.Reach.TheVariants.{Elements, Dot}
 use Rattle.lisp_read.specs.declared.lists.OpenList.{OpenList}
 use Rattle.lisp_read.specs.Forms.{Form, Atom, Symbol}
 use Rattle.lisp_read.specs.Views.{form_of}
-use Rattle.clvm_spec.specs.Grammar.{Parses}
+use Rattle.clvm_spec.specs.Grammar.{Parses, Breaks}
 use Rattle.lisp_read.specs.Grammar.{Places, ParsedForm}
-use Rattle.lisp_read.specs.OpenLists.{behind, takes_form, takes_dot, takes_end, list_of, with_next, token_in, read_in, form_in, continued, resumed, told, dot_of, first_dot, fault_at, IsFault, Leads}
-use Rattle.lisp_read.proofs.ListLaws.{resumed_push, told_push, next_form, literal_in, symbol_in, begun_at, opens_first, opens_more, dot_in, end_in, stops, end_of_text_in}
+use Rattle.lisp_read.specs.OpenLists.{behind, TakesForm, IsNext, TakesDot, read_in, continued, resumed, told, IsFirstFault, IsBroken, Ends, Leads}
+use Rattle.lisp_read.proofs.ListLaws.{resumed_push, told_push, literal_in, symbol_in, begun_at, opens_first, opens_more, end_of_text_in, broken}
 
 some_open : (outer : List OpenList) (list : OpenList) → 0 < length (outer ++ list ∷ [])
 some_open [] list = omega arith
@@ -40,31 +40,37 @@ module _ (there : Places) (items outer : List OpenList) (list : OpenList) (is : 
 
   -- ---- faults
 
-  fault_told : (lent : List OpenList) (what : ScanKind) (at : Place) (fault : ReadAt) (parsed : ParsedForm) → lent ≡ outer → IsFault fault (fault_at (first_dot lent (dot_of list.reach)) what at) → parsed ≡ fault_at (dot_of list.reach) what at →
-      IsFault fault (resumed there 0 outer (behind list.place list.forms parsed))
-  fault_told lent what at fault parsed same e p = stops there outer list what at fault parsed p (subst (λ l. IsFault fault (fault_at (first_dot l (dot_of list.reach)) what at)) same e)
+  pub told_stops : (lent : List OpenList) (what : ScanKind) (at spot : Place) (fault : ReadAt) (front : Front) → lent ≡ outer → ((there : Places) → IsFirstFault fault (resumed there 0 (lent ++ list ∷ []) (Breaks what None at))) →
+      read_in there depth list front ≡ continued there depth list (Breaks what None spot) → spot ≡ at → IsFirstFault fault (told there 0 items front)
+  told_stops lent what at spot fault front same e p here =
+      subst (IsFirstFault fault)
+      (sym (told_last front ∙ ap (resumed there 0 outer) p
+      ∙ sym (resumed_push there 0 outer list (Breaks what None spot)) ∙ ap (λ l. resumed there 0 (l ++ list ∷ []) (Breaks what None spot)) (sym same) ∙ ap (λ a. resumed there 0 (lent ++ list ∷ []) (Breaks what None a)) here)) (e there)
 
-  pub told_stops : (lent : List OpenList) (what : ScanKind) (at : Place) (fault : ReadAt) (front : Front) → lent ≡ outer → IsFault fault (fault_at (first_dot lent (dot_of list.reach)) what at) →
-      token_in there depth list.place list.forms list.reach front ≡ fault_at (dot_of list.reach) what at → IsFault fault (told there 0 items front)
-  told_stops lent what at fault front same e p = subst (IsFault fault) (sym (told_last front)) (fault_told lent what at fault _ same e p)
+  pub told_breaks : (lent : List OpenList) (what : ScanKind) (at spot : Place) (fault : ReadAt) (front : Front) → lent ≡ outer → ((there : Places) → IsFirstFault fault (resumed there 0 (lent ++ list ∷ []) (Breaks what None at))) →
+      read_in there depth list front ≡ continued there depth list (Breaks what None spot) → spot ≡ at → IsBroken fault (told there 0 items front)
+  told_breaks lent what at spot fault front same e p here = broken fault (told there 0 items front) (told_stops lent what at spot fault front same e p here)
 
-  pub resumed_stops : (lent : List OpenList) (what : ScanKind) (at : Place) (fault : ReadAt) (parsed : ParsedForm) → lent ≡ outer → IsFault fault (fault_at (first_dot lent (dot_of list.reach)) what at) →
-      form_in there depth list.place list.reach parsed ≡ fault_at (dot_of list.reach) what at → IsFault fault (resumed there 0 items parsed)
-  resumed_stops lent what at fault parsed same e p = subst (IsFault fault) (sym (resumed_last parsed)) (fault_told lent what at fault _ same e p)
+  pub resumed_breaks : (lent : List OpenList) (what : ScanKind) (at : Place) (fault : ReadAt) (parsed : ParsedForm) → lent ≡ outer → ((there : Places) → IsFirstFault fault (resumed there 0 (lent ++ list ∷ []) (Breaks what None at))) →
+      continued there depth list parsed ≡ continued there depth list (Breaks what None at) → IsBroken fault (resumed there 0 items parsed)
+  resumed_breaks lent what at fault parsed same e p =
+      broken fault (resumed there 0 items parsed)
+      (subst (IsFirstFault fault)
+      (sym (resumed_last parsed ∙ ap (resumed there 0 outer) p
+      ∙ sym (resumed_push there 0 outer list (Breaks what None at)) ∙ ap (λ l. resumed there 0 (l ++ list ∷ []) (Breaks what None at)) (sym same))) (e there))
 
   -- ---- what goes on
 
-  pub put_leads : (new : List OpenList) (next : OpenList) (form : seen.Form) (rest : List ℕ) → new ≡ outer ++ next ∷ [] → next ≡ with_next list.place list.forms list.reach form → takes_form list.reach ≡ true →
+  pub put_leads : (new : List OpenList) (next : OpenList) (form : seen.Form) (rest : List ℕ) → new ≡ outer ++ next ∷ [] → IsNext list form next →
       (0 < length new) × (resumed there 0 items (Parses (form_of form) rest) ≡ told there 0 new (token_of rest))
-  put_leads new next form rest is_new is_next takes = (
+  put_leads new next form rest is_new is_next = (
     is_open new outer next is_new,
     resumed_last (Parses (form_of form) rest)
-        ∙ ap (resumed there 0 outer) (next_form there depth list.place list.forms list.reach form rest takes)
-        ∙ ap (λ l. resumed there 0 outer (read_in there depth l (token_of rest))) (sym is_next)
+        ∙ ap (resumed there 0 outer) (is_next there depth rest)
         ∙ sym (told_push there 0 outer next (token_of rest)) ∙ ap (λ l. told there 0 l (token_of rest)) (sym is_new),
   )
 
-  pub open_leads : (lists new : List OpenList) (begun : OpenList) (from rest : List ℕ) → lists ≡ outer ++ list ∷ [] → new ≡ lists ++ begun ∷ [] → begun ≡ begun_at there from → takes_form list.reach ≡ true → length outer + 1 < 1024 →
+  pub open_leads : (lists new : List OpenList) (begun : OpenList) (from rest : List ℕ) → lists ≡ outer ++ list ∷ [] → new ≡ lists ++ begun ∷ [] → begun ≡ begun_at there from → TakesForm list → length outer + 1 < 1024 →
       (0 < length new) × (told there 0 items (Took Opening from rest) ≡ told there 0 new (token_of rest))
   open_leads lists new begun from rest is_lists is_new is_begun takes less = (
     is_open new lists begun is_new,
@@ -73,33 +79,30 @@ module _ (there : Places) (items outer : List OpenList) (list : OpenList) (is : 
         ∙ ap (λ l. told there 0 (lists ++ l ∷ []) (token_of rest)) (sym is_begun) ∙ ap (λ l. told there 0 l (token_of rest)) (sym is_new),
   )
 
-  pub dot_leads : (new : List OpenList) (next : OpenList) (from rest : List ℕ) → new ≡ outer ++ next ∷ [] → next ≡ record list { reach = Dot (there from) } → takes_dot list.reach list.forms ≡ true →
+  pub dot_leads : (new : List OpenList) (next : OpenList) (from rest : List ℕ) → new ≡ outer ++ next ∷ [] → next ≡ record list { reach = Dot (there from) } → TakesDot list →
       (0 < length new) × (told there 0 items (Took Point from rest) ≡ told there 0 new (token_of rest))
   dot_leads new next from rest is_new is_next takes = (
     is_open new outer next is_new,
     told_last (Took Point from rest)
-        ∙ ap (λ p. resumed there 0 outer (behind list.place list.forms p)) (dot_in there depth list.place list.forms list.reach from rest takes)
+        ∙ ap (resumed there 0 outer) (takes there depth from rest)
         ∙ ap (λ l. resumed there 0 outer (read_in there depth l (token_of rest))) (sym is_next)
         ∙ sym (told_push there 0 outer next (token_of rest)) ∙ ap (λ l. told there 0 l (token_of rest)) (sym is_new),
   )
 
   -- A list that ends is the next form of the one around it.
-  pub end_leads : (form : Form) (from rest : List ℕ) → form ≡ list_of list → takes_end list.reach ≡ true → told there 0 items (Took Closing from rest) ≡ resumed there 0 outer (Parses form rest)
-  end_leads form from rest e takes =
-      told_last (Took Closing from rest)
-      ∙ ap (λ p. resumed there 0 outer (behind list.place list.forms p)) (end_in there depth list.place list.forms list.reach from rest takes)
-      ∙ ap (λ f. resumed there 0 outer (Parses f rest)) (sym e)
+  pub end_leads : (form : Form) (from rest : List ℕ) → Ends list form → told there 0 items (Took Closing from rest) ≡ resumed there 0 outer (Parses form rest)
+  end_leads form from rest ends = told_last (Took Closing from rest) ∙ ap (resumed there 0 outer) (ends there depth from rest)
 
   literal_last : (bytes from rest : List ℕ) → told there 0 items (Took (Literal bytes) from rest) ≡ resumed there 0 items (Parses (Atom (there from) bytes) rest)
   literal_last bytes from rest =
       told_last (Took (Literal bytes) from rest)
-      ∙ ap (λ p. resumed there 0 outer (behind list.place list.forms p)) (literal_in there depth list.place list.forms list.reach bytes from rest)
+      ∙ ap (λ p. resumed there 0 outer (behind there list.place list.forms p)) (literal_in there depth list.place list.forms list.reach bytes from rest)
       ∙ sym (resumed_last (Parses (Atom (there from) bytes) rest))
 
   symbol_last : (name from rest : List ℕ) → told there 0 items (Took (tokens.Symbol name) from rest) ≡ resumed there 0 items (Parses (Symbol (there from) name) rest)
   symbol_last name from rest =
       told_last (Took (tokens.Symbol name) from rest)
-      ∙ ap (λ p. resumed there 0 outer (behind list.place list.forms p)) (symbol_in there depth list.place list.forms list.reach name from rest)
+      ∙ ap (λ p. resumed there 0 outer (behind there list.place list.forms p)) (symbol_in there depth list.place list.forms list.reach name from rest)
       ∙ sym (resumed_last (Parses (Symbol (there from) name) rest))
 
 -- the innermost list, if one is open
@@ -156,7 +159,7 @@ abbrev PutLeads : List OpenList → List OpenList → seen.Form → Option seen.
 PutLeads outer new form done = (there : Places) (rest : List ℕ) → Leads there new rest done (resumed there 0 outer (Parses (form_of form) rest))
 
 abbrev PutStops : List OpenList → seen.Form → ReadAt → Type 0
-PutStops outer form fault = (there : Places) (rest : List ℕ) → IsFault fault (resumed there 0 outer (Parses (form_of form) rest))
+PutStops outer form fault = (there : Places) (rest : List ℕ) → IsBroken fault (resumed there 0 outer (Parses (form_of form) rest))
 
 abbrev IsPut : List OpenList → seen.Form → List OpenList → Token → (Places → List ℕ → Type 0) → Type 0
 IsPut outer form items token Here = (there : Places) (from rest : List ℕ) → Here there from → told there 0 items (Took token from rest) ≡ resumed there 0 outer (Parses (form_of form) rest)
@@ -167,9 +170,9 @@ leads_same outer new form items token Here (Ok done) h put = λ there from rest 
 leads_same outer new form items token Here (Err fault) h put = tt
 
 pub stops_same : (outer : List OpenList) (form : seen.Form) (items : List OpenList) (token : Token) (Here : Places → List ℕ → Type 0) (result : Result (Option seen.Form) ReadAt) → IfErr result (PutStops outer form) → IsPut outer form items token Here →
-    IfErr result (λ fault. (there : Places) (from rest : List ℕ) → Here there from → IsFault fault (told there 0 items (Took token from rest)))
+    IfErr result (λ fault. (there : Places) (from rest : List ℕ) → Here there from → IsBroken fault (told there 0 items (Took token from rest)))
 stops_same outer form items token Here (Ok _) h put = tt
-stops_same outer form items token Here (Err fault) h put = λ there from rest e. subst (IsFault fault) (sym (put there from rest e)) (h there rest)
+stops_same outer form items token Here (Err fault) h put = λ there from rest e. subst (IsBroken fault) (sym (put there from rest e)) (h there rest)
 
 pub literal_put : (items : List OpenList) (place : Place) (bytes word : List ℕ) (token : Token) → token ≡ Literal bytes → word ≡ bytes → IsPut items (seen_as.Atom place word) items token (λ there from. there from ≡ place)
 literal_put items place bytes word token t w = λ there from rest e.
@@ -187,7 +190,7 @@ end_split there items (nothing e) = rw e refl
 end_split there items (within outer list e) =
     let depth = suc (0 + length outer) in
     ap (λ l. told there 0 l AtEnd) e ∙ told_push there 0 outer list AtEnd
-    ∙ ap (λ p. resumed there 0 outer (behind list.place list.forms p)) (end_of_text_in there depth list.place list.forms list.reach)
+    ∙ ap (λ p. resumed there 0 outer (behind there list.place list.forms p)) (end_of_text_in there depth list.place list.forms list.reach)
     ∙ sym (told_push there 0 outer list (Unread kind.End [])) ∙ ap (λ l. told there 0 l (Unread kind.End [])) (sym e)
 
 pub end_told : (there : Places) (items : List OpenList) → told there 0 items AtEnd ≡ told there 0 items (Unread kind.End [])

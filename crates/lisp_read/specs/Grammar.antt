@@ -3,8 +3,8 @@
 use Rattle.std.specs.Prelude.{ℕ, zero, suc, List, [], ◌∷◌, length, None}
 use Rattle.clvm_spec.specs.declared.scan_kind.ScanKind.{ScanKind}
 use Rattle.clvm_spec.specs.Places.{place_of}
-use Rattle.clvm_spec.specs.Tokens.{Front, Took, Unread, AtEnd, token_of}
-use Rattle.clvm_spec.specs.Grammar.{Language, Parsed, Parses, Breaks, form_at, list_from}
+use Rattle.clvm_spec.specs.Tokens.{Front, AtEnd, token_of}
+use Rattle.clvm_spec.specs.Grammar.{Language, Parsed, Parses, Breaks, outer_form}
 use Rattle.lisp_read.specs.declared.place.Place.{Place}
 use Rattle.lisp_read.specs.Forms.{Form, Atom, Symbol, Pair}
 
@@ -42,8 +42,7 @@ with_forms more (Breaks kind unknown place) = Unreadable kind place.at
 
 abbrev pub forms_at : Places → (List ℕ → Read) → Front → Read
 forms_at there more AtEnd = Reads []
-forms_at there more (Unread kind from) = Unreadable kind (there from).at
-forms_at there more (Took token from rest) = with_forms more (form_at (chialisp there) (list_from (chialisp there)) 0 (Took token from rest))
+forms_at there more front = with_forms more (outer_form (chialisp there) front)
 
 -- Each form takes a byte, so the number only bounds the recursion.
 abbrev pub forms_within : Places → ℕ → List ℕ → Read

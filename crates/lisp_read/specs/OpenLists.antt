@@ -1,11 +1,11 @@
 -- How a text is read on, where lists are open, the outermost first: what the contracts of the reader's steps say, no part of
 -- the grammar. This project's own.
-use Rattle.std.specs.Prelude.{◌≡◌, ℕ, suc, ◌<◌, Bool, true, false, List, [], ◌∷◌, ◌++◌, length, Option, Some, None}
-use Rattle.std.specs.Option.{option_or}
+use Rattle.std.specs.Prelude.{◌≡◌, ℕ, suc, ◌<◌, Bool, true, false, List, [], ◌∷◌, length, Option, Some, None}
 use Rattle.clvm_spec.specs.declared.scan_kind.ScanKind.{ScanKind}
 use Rattle.clvm_spec.specs.declared.scan_kind.ScanKind.TheVariants as kind
-use Rattle.clvm_spec.specs.Tokens.{Front, token_of}
-use Rattle.clvm_spec.specs.Grammar.{Language, Parses, Breaks, behind_dot, closed, last_form, form_at, with_rest, list_at, list_from}
+use Rattle.clvm_spec.specs.Tokens.{Token, Opening, Closing, Point, Front, Took, token_of}
+use Rattle.clvm_spec.specs.Grammar.{Language, Parses, Breaks, behind_dot, closed, last_form, opened, form_at, with_rest, list_at, list_from, outer_form}
+use Rattle.clvm_spec.specs.Grammar as grammar
 use Rattle.lisp_read.specs.declared.place.Place.{Place}
 use Rattle.lisp_read.specs.declared.form.Form as seen
 use Rattle.lisp_read.specs.declared.fault.ReadAt.{ReadAt}
@@ -13,56 +13,15 @@ use Rattle.lisp_read.specs.declared.fault.ReadAt.TheVariants.{At, OutOfMemory}
 use Rattle.lisp_read.specs.declared.lists.Reach.{Reach}
 use Rattle.lisp_read.specs.declared.lists.Reach.TheVariants.{Elements, Dot, Last}
 use Rattle.lisp_read.specs.declared.lists.OpenList.{OpenList}
-use Rattle.lisp_read.specs.Forms.{Form, Atom, Pair}
+use Rattle.lisp_read.specs.Forms.{Form}
 use Rattle.lisp_read.specs.Views.{form_of}
-use Rattle.lisp_read.specs.Grammar.{Places, chialisp, ParsedForm, Read, with_forms, forms_at, forms_from}
+use Rattle.lisp_read.specs.Grammar.{Places, chialisp, ParsedForm}
 
 -- ---- a list
 
 abbrev pub is_begun : List Form → Bool
 is_begun [] = false
 is_begun (form ∷ forms) = true
-
--- the list of these elements, up to what stands behind them
-abbrev pub pairs : Place → List Form → Form → Form
-pairs place [] last = last
-pairs place (form ∷ forms) last = Pair place form (pairs place forms last)
-
--- the elements before what is read
-abbrev pub behind : Place → List Form → ParsedForm → ParsedForm
-behind place forms (Parses last rest) = Parses (pairs place forms last) rest
-behind place forms (Breaks what unknown at) = Breaks what unknown at
-
--- whether a form may stand next, a dot, and a `)`
-abbrev pub takes_form : Reach → Bool
-takes_form Elements = true
-takes_form (Dot dot) = true
-takes_form (Last dot form) = false
-
-abbrev pub takes_dot : Reach → List Form → Bool
-takes_dot Elements forms = is_begun forms
-takes_dot (Dot dot) forms = false
-takes_dot (Last dot form) forms = false
-
-abbrev pub takes_end : Reach → Bool
-takes_end Elements = true
-takes_end (Dot dot) = false
-takes_end (Last dot form) = true
-
--- what stands behind the elements, if the list ends there
-abbrev pub last_of : Place → Reach → Form
-last_of place Elements = Atom place []
-last_of place (Dot dot) = Atom place []
-last_of place (Last dot form) = form_of form
-
-abbrev pub list_of : OpenList → Form
-list_of list = pairs list.place list.forms (last_of list.place list.reach)
-
--- the list with one more form
-abbrev pub with_next : Place → List Form → Reach → seen.Form → OpenList
-with_next place forms Elements form = record { place = place; forms = forms ++ form_of form ∷ []; reach = Elements }
-with_next place forms (Dot dot) form = record { place = place; forms = forms; reach = Last dot form }
-with_next place forms (Last dot last) form = record { place = place; forms = forms; reach = Last dot last }
 
 -- Behind the last form stands no other.
 abbrev pub no_other : Place → ParsedForm → ParsedForm
@@ -72,6 +31,11 @@ no_other dot (Breaks what unknown at) = behind_dot dot what unknown at
 module _ (there : Places) where
   abbrev language : Language Form Place
   language = chialisp there
+
+  -- the elements before what is read
+  abbrev pub behind : Place → List Form → ParsedForm → ParsedForm
+  behind place [] parsed = parsed
+  behind place (form ∷ forms) parsed = grammar.behind language place form (behind place forms parsed)
 
   -- what a list is, by what stands at its next token
   abbrev pub token_in : ℕ → Place → List Form → Reach → Front → ParsedForm
@@ -100,31 +64,57 @@ module _ (there : Places) where
 
   -- what it is, by what stands at the next token; a form, where no list is open
   abbrev pub told : ℕ → List OpenList → Front → ParsedForm
-  told depth [] front = form_at language (list_from language) depth front
+  told depth [] front = outer_form language front
   told depth (list ∷ []) front = read_in (suc depth) list front
   told depth (list ∷ other ∷ inner) front = continued (suc depth) list (told (suc depth) (other ∷ inner) front)
 
+-- ---- what stands next in a list
+
+-- A form may: a list that opens there is read as its next form.
+abbrev pub TakesForm : OpenList → Type 0
+TakesForm list = (there : Places) (depth : ℕ) (from rest : List ℕ) →
+    read_in there depth list (Took Opening from rest) ≡ continued there depth list (opened (chialisp there) (list_from (chialisp there)) depth from rest)
+
+-- With that form next the list goes on as this one.
+abbrev pub IsNext : OpenList → seen.Form → OpenList → Type 0
+IsNext list form next = (there : Places) (depth : ℕ) (rest : List ℕ) → continued there depth list (Parses (form_of form) rest) ≡ read_in there depth next (token_of rest)
+
+-- A dot may: behind it stands the last form.
+abbrev pub TakesDot : OpenList → Type 0
+TakesDot list = (there : Places) (depth : ℕ) (from rest : List ℕ) → read_in there depth list (Took Point from rest) ≡ read_in there depth (record list { reach = Dot (there from) }) (token_of rest)
+
+-- A `)` ends the list, which is this form.
+abbrev pub Ends : OpenList → Form → Type 0
+Ends list form = (there : Places) (depth : ℕ) (from rest : List ℕ) → read_in there depth list (Took Closing from rest) ≡ Parses form rest
+
+-- A `)` may.
+abbrev pub TakesEnd : OpenList → Type 0
+TakesEnd list = (form : Form) × Ends list form
+
+-- That token is wrong there.
+abbrev pub Refuses : OpenList → Token → ScanKind → Type 0
+Refuses list token what = (there : Places) (depth : ℕ) (from rest : List ℕ) → read_in there depth list (Took token from rest) ≡ continued there depth list (Breaks what None (there from))
+
+-- Any form is wrong there.
+abbrev pub RefusesForms : OpenList → Type 0
+RefusesForms list = (there : Places) (depth : ℕ) (form : Form) (rest : List ℕ) (at : Place) → continued there depth list (Parses form rest) ≡ continued there depth list (Breaks kind.Dot None at)
+
 -- ---- faults
 
-abbrev pub dot_of : Reach → Option Place
-dot_of Elements = None
-dot_of (Dot dot) = Some dot
-dot_of (Last dot form) = Some dot
-
--- the outermost open dot
-abbrev pub first_dot : List OpenList → Option Place → Option Place
-first_dot [] last = last
-first_dot (list ∷ inner) last = option_or (dot_of list.reach) (first_dot inner last)
-
--- what is read where something is wrong behind that dot, or behind none
-abbrev pub fault_at : Option Place → ScanKind → Place → ParsedForm
-fault_at None what place = Breaks what None place
-fault_at (Some dot) what place = behind_dot dot what None place
+-- What is wrong where the innermost of these lists goes on is told as behind this dot, or, with none, as it is.
+abbrev pub IsFirstDot : List OpenList → Option Place → Type 0
+IsFirstDot lists None = (there : Places) (depth : ℕ) (what : ScanKind) (at : Place) → resumed there depth lists (Breaks what None at) ≡ Breaks what None at
+IsFirstDot lists (Some dot) = (there : Places) (depth : ℕ) (what : ScanKind) (at : Place) → resumed there depth lists (Breaks what None at) ≡ behind_dot dot what None at
 
 -- That is why nothing is parsed.
-abbrev pub IsFault : ReadAt → ParsedForm → Type 0
-IsFault (At what at) parsed = (place : Place) × (place.at ≡ at) × (parsed ≡ Breaks what None place)
-IsFault OutOfMemory parsed = Unit {0}
+abbrev pub IsFirstFault : ReadAt → ParsedForm → Type 0
+IsFirstFault (At what at) parsed = (place : Place) × (place.at ≡ at) × (parsed ≡ Breaks what None place)
+IsFirstFault OutOfMemory parsed = ⊥
+
+-- That, or memory lacks.
+abbrev pub IsBroken : ReadAt → ParsedForm → Type 0
+IsBroken OutOfMemory parsed = Unit {0}
+IsBroken fault parsed = IsFirstFault fault parsed
 
 -- ---- steps
 
@@ -132,9 +122,3 @@ IsFault OutOfMemory parsed = Unit {0}
 abbrev pub Leads : Places → List OpenList → List ℕ → Option seen.Form → ParsedForm → Type 0
 Leads there lists rest None parsed = (0 < length lists) × (parsed ≡ told there 0 lists (token_of rest))
 Leads there lists rest (Some form) parsed = (lists ≡ []) × (parsed ≡ Parses (form_of form) rest)
-
--- ---- the text
-
-abbrev pub read_on : Places → List OpenList → Front → Read
-read_on there [] front = forms_at there (forms_from there) front
-read_on there (list ∷ inner) front = with_forms (forms_from there) (told there 0 (list ∷ inner) front)

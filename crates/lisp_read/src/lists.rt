@@ -1,9 +1,11 @@
 //! The lists that are open where a text is read.
 
-ghost use Rattle.std.specs.Prelude.{◌≡◌, ◌∷◌, ◌++◌, [], true, IfOk};
+ghost use Rattle.std.specs.Prelude.{◌≡◌, ◌∷◌, ◌++◌, [], IsTrue, IsFalse, IfOk};
+ghost use Rattle.clvm_spec.specs.declared.scan_kind.ScanKind.TheVariants as kind;
+ghost use Rattle.clvm_spec.specs.Tokens.{Opening, Closing, Point};
 ghost use Rattle.lisp_read.specs.declared.lists.Reach.TheVariants as reach;
 ghost use Rattle.lisp_read.specs.Views.{form_of};
-ghost use Rattle.lisp_read.specs.OpenLists.{takes_form, takes_dot, takes_end, dot_of, list_of, with_next};
+ghost use Rattle.lisp_read.specs.OpenLists.{TakesForm, IsNext, TakesDot, Ends, TakesEnd, Refuses, RefusesForms, IsFirstDot};
 
 use crate::{Form, Forms, OutOfMemory, Place, Word};
 use std::alloc::Global;
@@ -36,7 +38,9 @@ impl OpenList {
     }
 
     pub(crate) fn takes_form(&self) -> bool
-        ensures { result ≡ takes_form self.now.reach }
+        ensures takes { IsTrue result → TakesForm self.now }
+        ensures list { IsFalse result → Refuses self.now Opening kind.Dot }
+        ensures form { IsFalse result → RefusesForms self.now }
     {
         match self.reach {
             Reach::Elements => true,
@@ -46,7 +50,8 @@ impl OpenList {
     }
 
     pub(crate) fn takes_dot(&self) -> bool
-        ensures { result ≡ takes_dot self.now.reach self.now.forms }
+        ensures takes { IsTrue result → TakesDot self.now }
+        ensures refuses { IsFalse result → Refuses self.now Point kind.Dot }
     {
         match self.reach {
             Reach::Elements => !self.forms.is_empty(),
@@ -56,7 +61,8 @@ impl OpenList {
     }
 
     pub(crate) fn takes_end(&self) -> bool
-        ensures { result ≡ takes_end self.now.reach }
+        ensures takes { IsTrue result → TakesEnd self.now }
+        ensures refuses { IsFalse result → Refuses self.now Closing kind.Close }
     {
         match self.reach {
             Reach::Elements => true,
@@ -66,7 +72,7 @@ impl OpenList {
     }
 
     pub(crate) fn dot(&self) -> Option<Place>
-        ensures { result ≡ dot_of self.now.reach }
+        ensures { IsFirstDot (self.now ∷ []) result }
     {
         match self.reach {
             Reach::Elements => None,
@@ -92,8 +98,8 @@ impl OpenList {
     }
 
     pub(crate) fn with_form(self, alloc: Global, form: Form) -> Result<OpenList, OutOfMemory>
-        requires { takes_form self.reach ≡ true }
-        ensures { IfOk result (λ list. list ≡ with_next self.place self.forms self.reach form) }
+        requires { TakesForm self }
+        ensures { IfOk result (IsNext self form) }
     {
         let OpenList {
             place,
@@ -116,10 +122,10 @@ impl OpenList {
     }
 
     /// The list, which ends there.
-    #[tactic(auto, using(crate::proofs::ListLaws::pairs_push))]
+    #[tactic(auto, using(crate::proofs::ListLaws::behind_push))]
     pub(crate) fn whole(self, alloc: Global) -> Result<Form, OutOfMemory>
-        requires { takes_end self.reach ≡ true }
-        ensures { IfOk result (λ form. form_of form ≡ list_of self) }
+        requires { TakesEnd self }
+        ensures { IfOk result (λ form. Ends self (form_of form)) }
     {
         let OpenList {
             place,
@@ -127,8 +133,9 @@ impl OpenList {
             reach,
         } = self;
         let mut rest = match reach {
+            Reach::Elements => Form::Atom(place, Word::from_vec(Vec::new(alloc))),
+            Reach::Dot(_) => unreachable!(),
             Reach::Last(_, form) => form,
-            _ => Form::Atom(place, Word::from_vec(Vec::new(alloc))),
         };
         'elements: while let Some(first) = forms.pop() {
             rest = Form::pair(alloc, place, first, rest)?;

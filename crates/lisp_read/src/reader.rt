@@ -1,13 +1,14 @@
 //! Reading: the forms of a text, or its first fault.
 
-ghost use Rattle.std.specs.Prelude.{◌≡◌, ◌≤◌, ◌^◌, ℕ, List, length, None, IfOk, IfErr};
+ghost use Rattle.std.specs.Prelude.{◌≡◌, ◌∷◌, ◌++◌, [], ◌≤◌, ◌^◌, ℕ, List, length, None, IfOk, IfErr};
 ghost use Rattle.clvm_spec.specs.Tokens.{Opening, Closing, Point, Took, Unread};
 ghost use Rattle.text_tokens.specs.Meanings.{meant};
 ghost use Rattle.lisp_read.specs.Views.{form_of};
-ghost use Rattle.clvm_spec.specs.Grammar.{Parses};
+ghost use Rattle.clvm_spec.specs.Grammar.{Parses, Breaks};
 ghost use Rattle.lisp_read.specs.Grammar.{Places, Reads, forms_of};
 ghost use Rattle.lisp_read.specs.Faults.{IsReadFault};
-ghost use Rattle.lisp_read.specs.OpenLists.{dot_of, first_dot, fault_at, IsFault, resumed, told, Leads};
+ghost use Rattle.lisp_read.specs.declared.lists.OpenList.{OpenList};
+ghost use Rattle.lisp_read.specs.OpenLists.{IsFirstDot, IsFirstFault, IsBroken, resumed, told, Leads};
 
 use crate::lists::{OpenList, Reach};
 use crate::{Form, Forms, Place, ReadAt, ReadKind, Word};
@@ -17,9 +18,9 @@ use text_tokens::{Front, Token, first_token};
 /// How many parentheses may be open at once.
 const MOST_OPEN: usize = 1024;
 
-// The place of the outermost open dot.
+// The place of the outermost open dot: of these lists, or else the last, which stands within them.
 fn first_dot(lists: &[OpenList], last: Option<Place>) -> Option<Place>
-    ensures { result ≡ first_dot lists.now last }
+    ensures { (inner : List OpenList) → IsFirstDot inner last → IsFirstDot (lists.now ++ inner) result }
 {
     let mut rest = lists;
     'lists: while let [list, inner @ ..] = rest {
@@ -33,7 +34,7 @@ fn first_dot(lists: &[OpenList], last: Option<Place>) -> Option<Place>
 
 // The fault of what is wrong behind the outermost open dot.
 fn fault_behind(dot: Option<Place>, kind: ReadKind, place: Place) -> ReadAt
-    ensures { IsFault result (fault_at dot kind place) }
+    ensures { (there : Places) (lists : List OpenList) → IsFirstDot lists dot → IsFirstFault result (resumed there 0 lists (Breaks kind None place)) }
 {
     match dot {
         Some(dot) if kind.is_dots_fault() => ReadAt::At(ReadKind::Dot, dot.at),
@@ -43,14 +44,14 @@ fn fault_behind(dot: Option<Place>, kind: ReadKind, place: Place) -> ReadAt
 
 // The fault of what stands in the innermost list.
 fn fault_in(outer: &[OpenList], list: &OpenList, kind: ReadKind, place: Place) -> ReadAt
-    ensures { IsFault result (fault_at (first_dot outer.now (dot_of list.now.reach)) kind place) }
+    ensures { (there : Places) → IsFirstFault result (resumed there 0 (outer.now ++ list.now ∷ []) (Breaks kind None place)) }
 {
     fault_behind(first_dot(outer, list.dot()), kind, place)
 }
 
 // The fault of what is no token, or of the text's end.
 fn fault(mut lists: Vec<OpenList>, kind: ReadKind, place: Place) -> ReadAt
-    ensures { (there : Places) (from : List ℕ) → there from ≡ place → IsFault result (told there 0 lists.items (Unread kind from)) }
+    ensures { (there : Places) (from : List ℕ) → there from ≡ place → IsFirstFault result (told there 0 lists.items (Unread kind from)) }
 {
     match lists.pop() {
         None => ReadAt::At(kind, place.at),
@@ -70,7 +71,7 @@ fn put(
     place: Place,
 ) -> Result<Option<Form>, ReadAt>
     ensures leads { IfOk result (λ done. (there : Places) (rest : List ℕ) → Leads there lists.new.items rest done (resumed there 0 lists.old.items (Parses (form_of form) rest))) }
-    ensures stops { IfErr result (λ fault. (there : Places) (rest : List ℕ) → IsFault fault (resumed there 0 lists.old.items (Parses (form_of form) rest))) }
+    ensures stops { IfErr result (λ fault. (there : Places) (rest : List ℕ) → IsBroken fault (resumed there 0 lists.old.items (Parses (form_of form) rest))) }
 {
     match lists.pop() {
         None => Ok(Some(form)),
@@ -87,7 +88,7 @@ fn put(
 // A `(` opens a list within the others.
 fn open(alloc: Global, lists: &mut Vec<OpenList>, place: Place) -> Result<(), ReadAt>
     ensures leads { IfOk result (λ _. (there : Places) (from rest : List ℕ) → there from ≡ place → Leads there lists.new.items rest None (told there 0 lists.old.items (Took Opening from rest))) }
-    ensures stops { IfErr result (λ fault. (there : Places) (from rest : List ℕ) → there from ≡ place → IsFault fault (told there 0 lists.old.items (Took Opening from rest))) }
+    ensures stops { IfErr result (λ fault. (there : Places) (from rest : List ℕ) → there from ≡ place → IsBroken fault (told there 0 lists.old.items (Took Opening from rest))) }
 {
     let begun = OpenList::new(alloc, place);
     match lists.pop() {
@@ -112,7 +113,7 @@ fn open(alloc: Global, lists: &mut Vec<OpenList>, place: Place) -> Result<(), Re
 // Behind a dot stands the last form of its list.
 fn point(lists: &mut Vec<OpenList>, place: Place) -> Result<(), ReadAt>
     ensures leads { IfOk result (λ _. (there : Places) (from rest : List ℕ) → there from ≡ place → Leads there lists.new.items rest None (told there 0 lists.old.items (Took Point from rest))) }
-    ensures stops { IfErr result (λ fault. (there : Places) (from rest : List ℕ) → there from ≡ place → IsFault fault (told there 0 lists.old.items (Took Point from rest))) }
+    ensures stops { IfErr result (λ fault. (there : Places) (from rest : List ℕ) → there from ≡ place → IsBroken fault (told there 0 lists.old.items (Took Point from rest))) }
 {
     match lists.pop() {
         None => Err(ReadAt::At(ReadKind::Dot, place.at)),
@@ -129,7 +130,7 @@ fn point(lists: &mut Vec<OpenList>, place: Place) -> Result<(), ReadAt>
 // A `)` ends the innermost list, which is the next form of the one around it.
 fn close(alloc: Global, lists: &mut Vec<OpenList>, place: Place) -> Result<Option<Form>, ReadAt>
     ensures leads { IfOk result (λ done. (there : Places) (from rest : List ℕ) → there from ≡ place → Leads there lists.new.items rest done (told there 0 lists.old.items (Took Closing from rest))) }
-    ensures stops { IfErr result (λ fault. (there : Places) (from rest : List ℕ) → there from ≡ place → IsFault fault (told there 0 lists.old.items (Took Closing from rest))) }
+    ensures stops { IfErr result (λ fault. (there : Places) (from rest : List ℕ) → there from ≡ place → IsBroken fault (told there 0 lists.old.items (Took Closing from rest))) }
 {
     match lists.pop() {
         None => Err(ReadAt::At(ReadKind::Close, place.at)),
@@ -151,7 +152,7 @@ fn step(
     place: Place,
 ) -> Result<Option<Form>, ReadAt>
     ensures leads { IfOk result (λ done. (there : Places) (from rest : List ℕ) → there from ≡ place → Leads there lists.new.items rest done (told there 0 lists.old.items (Took (meant token.entry) from rest))) }
-    ensures stops { IfErr result (λ fault. (there : Places) (from rest : List ℕ) → there from ≡ place → IsFault fault (told there 0 lists.old.items (Took (meant token.entry) from rest))) }
+    ensures stops { IfErr result (λ fault. (there : Places) (from rest : List ℕ) → there from ≡ place → IsBroken fault (told there 0 lists.old.items (Took (meant token.entry) from rest))) }
 {
     match token {
         Token::Opening => {

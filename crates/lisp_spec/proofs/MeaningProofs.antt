@@ -1,13 +1,13 @@
 -- The laws of the meaning on its count.
 use Rattle.std.proofs.Common.{◌≡◌, ℕ, zero, suc, ◌==◌, ◌≤◌, Bool, true, false, cond, List, [], ◌∷◌, Option, Some, None, codes, refl, ⊎_elim, sym, ap, subst, arith}
 use Rattle.std.proofs.lemmas.Bool.{cases_lt}
-use Rattle.clvm_spec.specs.Spending.{Suffices}
 use Rattle.clvm_spec.specs.Tree.{Tree, Atom, Pair, list_tree}
 use Rattle.clvm_spec.specs.Outcomes as run
 use Rattle.clvm_spec.specs.Outcomes.{Outcome}
 use Rattle.clvm_spec.specs.Operators.{is_nil}
 use Rattle.clvm_spec.specs.OperatorTable.{applied}
 use Rattle.clvm_spec.specs.Evaluation.{run_outcome}
+use Rattle.clvm_spec.proofs.SpendingLaws.{Covers, covers, covered}
 use Rattle.clvm_spec.proofs.Steps.{done_law, failures_law, wide_law}
 use Rattle.lisp_spec.specs.Forms.{Form, Place}
 use Rattle.lisp_spec.specs.Forms as form
@@ -48,8 +48,9 @@ module _ (source : Module) (n m : ℕ) (more : n ≤ m) (further further' : Mean
   refines_outcome : (program argument : Tree) (o : Outcome) → run_outcome program argument (all_counts n) ≡ o → Refines (run_meaning o) (run_meaning (run_outcome program argument (all_counts m)))
   refines_outcome program argument (run.Done value left) e =
       let all = done_law program argument 0 (all_counts n) left value e in
-      let suffices : Suffices (all_counts m) all.0 = record { cost = omega (arith, all.1.cost); pairs = omega (arith, all.1.pairs); bytes = omega (arith, all.1.bytes) } in
-      refines_equal _ _ (sym (ap run_meaning (all.3 (all_counts m) suffices more)))
+      let before = covers (all_counts n) all.0 all.1 in
+      let after : Covers (all_counts m) all.0 = record { cost = omega (arith, before.cost); pairs = omega (arith, before.pairs); bytes = omega (arith, before.bytes) } in
+      refines_equal _ _ (sym (ap run_meaning (all.3 (all_counts m) (covered (all_counts m) all.0 after) more)))
   refines_outcome program argument (run.Failed why place) e =
       refines_equal _ _ (sym (ap run_meaning (failures_law program argument 0 (all_counts n) (all_counts m) why place (record { cost = more; pairs = more; bytes = more; depth = more }) e)))
   refines_outcome program argument (run.Spent which) e = out _

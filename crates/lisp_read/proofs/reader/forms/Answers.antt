@@ -4,9 +4,9 @@ use Rattle.text_tokens.specs.Meanings.{meant, meant_front}
 use Rattle.lisp_read.specs.Views.{form_of}
 use Rattle.lisp_read.specs.Grammar.{place_in, forms_of}
 use Rattle.lisp_read.specs.Laws.{after}
-use Rattle.lisp_read.specs.OpenLists.{told, Leads, read_on}
+use Rattle.lisp_read.specs.OpenLists.{told, Leads}
 use Rattle.lisp_read.proofs.BoundLaws.{forms_start, forms_step}
-use Rattle.lisp_read.proofs.ReadLaws.{none_of}
+use Rattle.lisp_read.proofs.ReadLaws.{read_on, none_of}
 use Rattle.lisp_read.proofs.ReadLaws.{after_push, goes_on, gives, token_stops, unread_stops, end_stops, end_reads}
 use Rattle.lisp_read.proofs.reader.forms.Goals as goal
 

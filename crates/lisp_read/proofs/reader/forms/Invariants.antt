@@ -2,7 +2,7 @@ use Rattle.std.proofs.Common.{◌≡◌, ◌≤◌, length}
 use Rattle.clvm_spec.specs.Tokens.{token_of}
 use Rattle.lisp_read.specs.Grammar.{place_in, forms_of}
 use Rattle.lisp_read.specs.Laws.{after}
-use Rattle.lisp_read.specs.OpenLists.{read_on}
+use Rattle.lisp_read.proofs.ReadLaws.{read_on}
 use Rattle.lisp_read.proofs.reader.forms.Given as goal
 
 abbrev pub invariant-tokens : goal.invariant-tokens
