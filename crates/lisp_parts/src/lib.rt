@@ -16,3 +16,6 @@ pub use lisp_read::{Place, ReadKind};
 pub use std::alloc::AllocError as OutOfMemory;
 pub use whole::{ModuleParts, parts};
 pub use written::{Role, Written};
+
+#[cfg(test)]
+mod tests;
