@@ -3,6 +3,8 @@
 use Rattle.std.specs.Prelude.{ℕ, zero, suc, ◌-◌, ◌==◌, Bool, false, ◌&&◌, List, [], ◌∷◌, length, Option, Some, None, nat_lt, nat_le, if◌then◌else◌}
 use Rattle.clvm_spec.specs.declared.fuel.Fuel.{Fuel}
 use Rattle.clvm_spec.specs.declared.fuel.Which.TheVariants.{Cost, Depth}
+use Rattle.clvm_spec.specs.declared.limits.TheConstants.{MOST_PAIRS, MOST_BYTES, MOST_DEPTH}
+use Rattle.clvm_spec.specs.declared.costs.TheConstants.{FORM_COST}
 use Rattle.clvm_spec.specs.Tree.{Tree, Atom, Pair}
 use Rattle.clvm_spec.specs.ProperList.{elements}
 use Rattle.clvm_spec.specs.Path.{PathValue, Reached, Astray, path_value, path_cost}
@@ -73,7 +75,7 @@ deeper operands depth left go = if is_too_deep (length operands) depth left.dept
 abbrev pub operator_form : Evaluator → List ℕ → Tree → Tree → ℕ → Option (List Tree) → Fuel → Outcome
 operator_form evaluate code form env depth None left = Failed NotAList form
 operator_form evaluate code form env depth (Some operands) left =
-    charge 1 left (λ after. deeper operands depth after (λ after.
+    charge FORM_COST left (λ after. deeper operands depth after (λ after.
     values_of (λ operand. evaluate operand env (suc depth)) operands after (apply_values evaluate code form depth)))
 
 -- A pair whose first is the code of `q` has its rest as its value.
@@ -106,13 +108,13 @@ run_cost fuel left = fuel.cost - left.cost
 
 -- the fuel of every run, but its cost
 abbrev pub most_pairs : ℕ
-most_pairs = 16_777_216
+most_pairs = MOST_PAIRS
 
 abbrev pub most_bytes : ℕ
-most_bytes = 134_217_728
+most_bytes = MOST_BYTES
 
 abbrev pub most_depth : ℕ
-most_depth = 1_048_576
+most_depth = MOST_DEPTH
 
 abbrev pub fuel_of : ℕ → Fuel
 fuel_of cost = record { cost = cost; pairs = most_pairs; bytes = most_bytes; depth = most_depth }

@@ -2,6 +2,7 @@
 -- Chialisp reference; the limit of nesting, the faults and their order are this project's own.
 use Rattle.std.specs.Prelude.{ℕ, zero, suc, Bool, true, false, List, [], length, nat_lt, if◌then◌else◌, Option, None}
 use Rattle.std.specs.Option.{option_or}
+use Rattle.clvm_spec.specs.declared.limits.TheConstants.{MOST_OPEN}
 use Rattle.clvm_spec.specs.declared.scan_kind.ScanKind.{ScanKind}
 use Rattle.clvm_spec.specs.declared.scan_kind.ScanKind.TheVariants.{End, Close, Dot, Deep}
 use Rattle.clvm_spec.specs.Tokens.{Opening, Closing, Point, Literal, Symbol, Front, Took, Unread, AtEnd, token_of}
@@ -50,7 +51,7 @@ last_form dot (Breaks kind unknown at) = behind_dot dot kind unknown at
 
 -- how many lists may stand in one another
 abbrev pub most_open : ℕ
-most_open = 1024
+most_open = MOST_OPEN
 
 module _ {Form Place : Type 0} (language : Language Form Place) where
   -- A `(` opens a list, if it isn't one too many.
