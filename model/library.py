@@ -1,5 +1,5 @@
 """The texts that every module may include."""
-from conditions_table import CONDITIONS
+from conditions import CODES
 
 TREE_HASH = b'''(
   (defun sha256tree (T)
@@ -13,5 +13,5 @@ TREE_HASH = b'''(
         (form-hash 4 (quoted-hash B) (sha256 1 1)))))
 )
 '''
-CONDITION_CODES = '(\n%s)\n' % ''.join('  (defconstant %s %d)\n' % it for it in CONDITIONS)
+CONDITION_CODES = '(\n%s)\n' % ''.join('  (defconstant %s %d)\n' % it for it in CODES)
 BUILT_IN = {b'condition_codes.clib': CONDITION_CODES.encode(), b'tree_hash.clib': TREE_HASH}
