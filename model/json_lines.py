@@ -13,6 +13,14 @@ class NotJson(Exception):
     """The line isn't one JSON value."""
 
 
+class Members(dict):
+    """An object. Of a member that comes twice the last value counts, but all are read."""
+
+    def __init__(self, pairs):
+        super().__init__(pairs)
+        self.read = [it for pair in pairs for it in pair]
+
+
 # A number too large for a float is refused, wherever it stands.
 def other_number(text):
     value = float(text)
@@ -22,13 +30,13 @@ def other_number(text):
 
 
 # Digits alone are a whole number, up to 64 bits.
-def whole_number(text):
+def number_of(text):
     if text[0] == '-' or len(text) > 20 or int(text) > MOST_WHOLE:
         return other_number(text)
     return int(text)
 
 
-def refused(_):
+def no_number(_):
     raise NotJson
 
 
@@ -36,7 +44,7 @@ def is_whole(value):
     return type(value) is int
 
 
-# Lists and objects nest at most 127 deep, and texts have no half of a pair of surrogates.
+# Lists and objects nest at most 127 deep, and no text has half of a pair of surrogates.
 def check(value):
     todo = [(value, 0)]
     while todo:
@@ -46,24 +54,14 @@ def check(value):
         elif type(value) in (list, Members):
             if depth == MOST_NESTED:
                 raise NotJson
-            inner = value if type(value) is list else [*value.keys(), *value.values()]
-            todo += [(it, depth + 1) for it in inner]
+            todo += [(it, depth + 1) for it in (value if type(value) is list else value.read)]
 
 
-class Members(dict):
-    """An object whose member that comes twice has the last value; the others are looked at too."""
-
-    def __init__(self, pairs):
-        for _, value in pairs:
-            if type(value) is str:
-                value.encode()
-        super().__init__(pairs)
-
-
-DECODER = json.JSONDecoder(parse_int=whole_number, parse_float=other_number, parse_constant=refused, object_pairs_hook=Members)
+DECODER = json.JSONDecoder(parse_int=number_of, parse_float=other_number, parse_constant=no_number, object_pairs_hook=Members)
 
 
 def value_of(line):
+    """The value of a line of UTF-8."""
     try:
         value = DECODER.decode(line.decode('utf-8'))
         check(value)
