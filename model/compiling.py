@@ -7,7 +7,7 @@ from operators import Spent, Wide
 from trees import is_atom, read_whole, same, spelled_size, spelling
 
 MOST_BOUND = 33_554_432
-CODE_COST = 2_000_000_000
+CALLS, SOURCE_COST, CODE_COST = 3_000, 1_000_000, 100_000_000      # within which an outcome is looked for
 
 
 # The line that is written in place of a code.
@@ -23,7 +23,7 @@ def fault_line(text, library):
 def source_outcome(found, environment):
     """`value TREE`, `wide`, `none`, or None where that isn't told."""
     try:
-        return mean(found, environment)
+        return mean(found, environment, CALLS, SOURCE_COST)
     except NoValue:
         return 'none'
     except Wide:

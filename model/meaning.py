@@ -127,6 +127,6 @@ class Meaning:
 
 
 # The module's parameters are bound to its argument tree, and its body is evaluated.
-def mean(module, arguments, calls=20_000, cost=20_000_000):
+def mean(module, arguments, calls, cost):
     """The value; raises NoValue, Wide or Out."""
     return finish(Meaning(module, calls, cost).value(module.body, bound_to(module.params, arguments)))
