@@ -1,5 +1,5 @@
 """Classes of spends, the forward shape of singletons, and the fit of a bundle to what is taken."""
-from chain import Coin, Spend
+from chain import Spend
 from conditions import SIGNED, BadCondition, Malformed, conditions_of, operand_of
 from currying import uncurried
 from evaluation import Failed

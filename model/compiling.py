@@ -1,10 +1,9 @@
 """Whether what `compile` wrote is right: the first fault, or a code that keeps the bound and agrees with the module."""
-from clvm_scan import scanned
 from evaluation import Failed, Fuel, run
 from meaning import NoValue, Out, mean
 from modules import UNLIMITED, ModuleFault, module
 from operators import Spent, Wide
-from trees import is_atom, read_whole, same, spelled_size, spelling
+from trees import same, spelled_size, spelling
 
 MOST_BOUND = 33_554_432
 CALLS, SOURCE_COST, CODE_COST = 3_000, 1_000_000, 100_000_000      # within which an outcome is looked for

@@ -59,8 +59,30 @@ class Player:
         return ' '.join(['pool %d' % len(self.pool.items), *[it.id.hex() for it in self.pool.items]])
 
 
+# A history has each command once and each lane's in order; each reply is the pool's at that place. The commands of several lanes may come in
+# any order of the lanes.
+def illegal(session, lines):
+    """None, or why these lines aren't an output of the session."""
+    wanted = ['code %s %s' % (name, spelling(session.codes[name][0]).hex()) for name, _ in session.modules]
+    if lines[:len(wanted)] != wanted:
+        return 'the codes are %r, and not %r' % (lines[:len(wanted)], wanted)
+    lanes = [[it for it in session.commands if it.lane == lane] for lane in range(session.header.lanes)]
+    player, numbers = Player(session), [0] * len(lanes)
+    for place, line in enumerate(lines[len(wanted):-2]):
+        words = line.split(' ', 3)
+        lane = int(words[1])
+        if lane >= len(lanes) or numbers[lane] == len(lanes[lane]) or words[:3] != [str(place), str(lane), str(numbers[lane])]:
+            return 'line %r is of no command that comes next' % line
+        reply = player.reply(lanes[lane][numbers[lane]])
+        if words[3] != reply:
+            return 'line %r should have the reply %r' % (line, reply)
+        numbers[lane] += 1
+    end = ['end %d' % len(session.commands), '']
+    return None if lines[-2:] == end and sum(numbers) == len(session.commands) else 'the end is %r, and not %r' % (lines[-2:], end)
+
+
 # First each module's code; then each entry of the history with its place, its lane and its number in the lane; last how many.
-def output(session, history=None):
+def output(session):
     """The lines of a session whose commands are done in the order of the input."""
     player, numbers, lines = Player(session), [0] * session.header.lanes, []
     for name, _ in session.modules:

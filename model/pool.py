@@ -2,8 +2,8 @@
 from collections import namedtuple
 from functools import cmp_to_key
 
-from blocks import accepted, block_bytes, block_hash, bundle_id, connect
-from chain import Block, Bundle, Spend
+from blocks import accepted, bundle_id, connect
+from chain import Block
 from classes import FORWARD, SAME, Taken, classes_of, fit_of
 from judging import Broken, judge
 from trees import same

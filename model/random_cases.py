@@ -1,6 +1,8 @@
-"""Random cases of `hash`, `curry` and `eval`: words and an input."""
+"""Random cases of each command: words, an input, and the files beside it."""
 from evaluation import FULL, Failed, run
 from operators import CODE_OF, ROWS, Spent, Wide
+from random_modules import module_text
+from random_sessions import session_input
 from random_trees import as_input, as_word, deep_tree, some_atom, some_bytes, some_number, some_tree, spelled_tree, spelled_wrong
 from trees import NIL, proper_list, shortest, spelling
 
@@ -273,4 +275,37 @@ def curry_case(rng):
     return ['curry'] + words, as_input(rng, spelled_tree(rng, 0.2), 0.05)
 
 
-CASES = {'hash': hash_case, 'eval': eval_case, 'curry': curry_case}
+def compile_case(rng):
+    text, files = module_text(rng)
+    words = bad_words(rng, 'compile') if rng.random() < 0.01 else ['compile'] + ['--text'] * (rng.random() < 0.1)
+    return words, text, files
+
+
+def session_case(rng):
+    words = bad_words(rng, 'session') if rng.random() < 0.01 else ['session']
+    return words, session_input(rng), {}
+
+
+def replay_case(rng):
+    words = bad_words(rng, 'replay') if rng.random() < 0.01 else ['replay']
+    return words, session_input(rng, is_replay=True), {}
+
+
+def make_case(rng):
+    words = []
+    for name, most in ('seed', 2 ** 64 - 1), ('commands', 30), ('lanes', 16):
+        if rng.random() < 0.97:
+            value = rng.choice((0, 1, most, most + 1)) if name != 'commands' and rng.random() < 0.2 else rng.randrange(1, most + 1)
+            words.append(rng.choice(('--%s=%d', '--%s %d')) % (name, value))
+    rng.shuffle(words)
+    return ['make', *' '.join(words).split(), *['80'] * (rng.random() < 0.02)], b'', {}
+
+
+def alone(case):
+    """A case without files."""
+    return lambda rng: (*case(rng), {})
+
+
+BUILT = ('hash', 'eval', 'curry')          # the commands that the program has
+CASES = {'hash': alone(hash_case), 'eval': alone(eval_case), 'curry': alone(curry_case), 'compile': compile_case, 'session': session_case,
+         'replay': replay_case, 'make': make_case}

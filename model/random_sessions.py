@@ -5,16 +5,16 @@ and conditions often hold.
 """
 import json
 
-from blocks import block_bytes, block_hash
-from chain import Block, Coin, Spend
-from conditions import ROWS, other_side
+from blocks import block_bytes
+from chain import Block, Bundle, Coin, Spend
+from conditions import ROWS, SIGNED, other_side
 from currying import curried
-from judging import BrokenSpend, facts_of
+from judging import BrokenSpend, facts_of, signed_message
 from playing import Player
 from random_modules import module_text
-from random_trees import as_word, some_atom, some_bytes, some_tree, spelled_wrong
-from session_lines import Bundle, Command, Header, Session, SessionFault, session_of
-from trees import NIL, is_atom, proper_list, sha256, shortest, spelling, tree_hash
+from random_trees import as_word, some_atom, some_tree, spelled_wrong
+from session_lines import Command, Header, Session
+from trees import NIL, proper_list, sha256, shortest, spelling, tree_hash
 
 OWN = b'\x01'                                                     # the solution is the list of conditions
 INNER = (b'\x02', (b'\x05', (b'\x2f', NIL)))                       # runs its second argument on its solution's third element
@@ -35,9 +35,11 @@ class Course:
         self.lines, self.hex_chance = [], rng.choice((0, 0.2))
         self.puzzles = [OWN, OWN, (b'\x01', NIL), TOP, TOP, FAILING, WIDE_PUZZLE, (b'\x01', some_tree(rng, 3)), curried(OWN, [some_atom(rng)])]
         self.known = {tree_hash(it): it for it in self.puzzles}
-        self.attested, self.bundles, self.messages = [], [], []
+        self.bundles = []
         self.header()
-        self.modules = [] if is_replay else self.module_lines()
+        self.singleton, self.proof_parents = bytes(32), {}
+        if not is_replay:
+            self.module_lines()
         self.coins = self.coin_lines()
         session = Session()
         session.header, session.singleton = self.head, self.singleton
@@ -67,7 +69,7 @@ class Course:
         self.lines.append(line)
 
     def module_lines(self):
-        rng, self.singleton = self.rng, bytes(32)
+        rng = self.rng
         for at in range(rng.choice((0, 0, 0, 1, 2))):
             if rng.random() < 0.3:
                 text, _ = module_text(rng)
@@ -78,21 +80,18 @@ class Course:
         if rng.random() < 0.6:
             self.singleton = SINGLETON
             self.lines.append({'singleton': self.hex(SINGLETON)})
-        return []
 
     def coin_line(self, coin):
         return {'parent_coin_info': self.hex(coin.parent), 'puzzle_hash': self.hex(coin.puzzle_hash), 'amount': coin.amount}
 
     def coin_lines(self):
         rng, coins = self.rng, []
-        if self.is_replay:
-            self.singleton = bytes(32)
         for _ in range(rng.randrange(0, 9)):
             puzzle = rng.choice(self.puzzles)
             if rng.random() < 0.35:
                 parent = Coin(rng.randbytes(32), tree_hash(TOP), rng.choice((1, 3, 3, 4)))
                 coins.append(Coin(parent.id, tree_hash(TOP), rng.choice((1, 1, 1, 3))))
-                self.proof_parents = getattr(self, 'proof_parents', {}) | {coins[-1].id: parent}
+                self.proof_parents[coins[-1].id] = parent
                 if rng.random() < 0.3:
                     coins.append(parent)
             else:
@@ -178,9 +177,8 @@ class Course:
         rng = self.rng
         puzzle = self.known.get(coin.puzzle_hash, OWN) if rng.random() < 0.98 else OWN
         if puzzle is TOP:
-            parent = self.proof_parents.get(coin.id) if hasattr(self, 'proof_parents') else None
             record = self.player.pool.chain.records.get(coin.parent)
-            parent = parent or (record.coin if record else None) or Coin(bytes(32), tree_hash(TOP), 1)
+            parent = self.proof_parents.get(coin.id) or (record.coin if record else None) or Coin(bytes(32), tree_hash(TOP), 1)
             inner = [proper_list([b'\x33', tree_hash(TOP), shortest(coin.amount)])]
             if rng.random() < 0.3:
                 inner += self.condition(coin)
@@ -221,8 +219,6 @@ class Course:
             return []
 
     def pairs_for(self, spends):
-        from conditions import SIGNED
-        from judging import signed_message
         pairs = []
         for spend in spends:
             try:
@@ -330,8 +326,36 @@ def as_line(rng, value, faults):
     return spoiled_text(rng, text) if rng.random() < faults / 2 else text
 
 
+def payment_session(rng):
+    """A session of one bundle whose puzzles are quoted lists of created coins."""
+    lines, coins = [{'session': 1, 'genesis': rng.choice(('11' * 32, rng.randbytes(32).hex())), 'seconds': rng.choice((0, 5, 2 ** 64 - 1))}], []
+    puzzles = [(b'\x01', proper_list([proper_list([b'\x33', rng.choice((b'\x22' * 32, rng.randbytes(32))), shortest(rng.choice((0, 1, 5, 100, 127, 128)))])
+                                      for _ in range(rng.randrange(0, 4))])) for _ in range(3)]
+    for _ in range(rng.randrange(0, 5)):
+        puzzle = rng.choice(puzzles)
+        coins.append((Coin(rng.choice((bytes(32), rng.randbytes(32))), tree_hash(puzzle), rng.choice(AMOUNTS)), puzzle))
+
+    def coin_line(coin):
+        return {'parent_coin_info': coin.parent.hex(), 'puzzle_hash': coin.puzzle_hash.hex(), 'amount': coin.amount}
+    lines += [{'coin': coin_line(it)} for it in {coin.id: coin for coin, _ in coins}.values() if rng.random() < 0.95]
+    spends = []
+    for _ in range(rng.choice((1, 1, 2, 3))):
+        if coins:
+            coin, puzzle = rng.choice(coins)
+            puzzle = puzzle if rng.random() < 0.95 else rng.choice(puzzles)
+            spends.append({'coin': coin_line(coin), 'puzzle_reveal': spelling(puzzle).hex(), 'solution': spelling(some_tree(rng, 3)).hex()})
+    if spends:
+        lines.append({'do': 'admit', 'bundle': {'coin_spends': spends}})
+    for _ in range(rng.randrange(0, 4)):
+        ids = [coin.id for coin, _ in coins] + [rng.randbytes(32)]
+        lines.append({'do': 'coin', 'id': rng.choice(ids).hex()})
+    return ''.join(json.dumps(it, separators=(',', ':')) + '\n' for it in lines).encode()
+
+
 def session_input(rng, is_replay=False):
     """The bytes of an input."""
+    if not is_replay and rng.random() < 0.1:
+        return payment_session(rng)
     course = Course(rng, is_replay)
     course.play()
     faults = rng.choice(LINE_FAULTS)

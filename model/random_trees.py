@@ -1,5 +1,5 @@
 """Random trees, numbers and spellings, good and bad."""
-from trees import NIL, proper_list, shortest, spelling
+from trees import proper_list, shortest, spelling
 
 BORDERS = sorted({sign * (2 ** bits + near) for bits in (7, 8, 15, 16, 31, 32, 63, 64, 126, 127, 128) for near in (-1, 0, 1)
                   for sign in (-1, 1)})

@@ -1,6 +1,6 @@
 """The tokens of a text, of CLVM's and of Chialisp's alike, and the lists that they make."""
 from operators import LEAST, MOST
-from trees import NIL, shortest
+from trees import shortest
 
 BLANKS = b' \t\r\n'
 ENDS_OF_WORDS = BLANKS + b'();"\''

@@ -2,7 +2,6 @@
 from trees import SpellingFault, read_whole
 
 MOST_SPELLED = 67_108_864
-NO_LIMIT = None
 
 # For each command: its numbers with their ranges and defaults (None: it must be given), its flags, and how many CLVM words.
 COMMANDS = {
