@@ -31,3 +31,4 @@ pub mod PrintedLaws
 pub mod PathLaws
 pub mod CurryingLaws
 mod CurryingRows
+pub mod ListLaws
