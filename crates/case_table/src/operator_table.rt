@@ -134,3 +134,13 @@ pub fn code_of(name: &str) -> Option<u8>
     }
     operator_rows!(codes())
 }
+
+/// The code of the operator that these bytes name. What is no text is no operator's name.
+pub fn symbol_code(name: &[u8]) -> Option<u8>
+    ensures { result ≡ option_map (λ row. row.code) (operator_named name.now) }
+{
+    match std::str::from_utf8(name) {
+        Ok(name) => code_of(name),
+        Err(_) => None,
+    }
+}
