@@ -1,0 +1,1 @@
+//! Turns of passes on one thread and on several.
