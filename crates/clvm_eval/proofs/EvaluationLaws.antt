@@ -1,7 +1,7 @@
--- Laws of pending work, on trees.
-use Rattle.std.proofs.Common.{◌≡◌, ℕ, suc, ◌+◌, ◌≤◌, true, false, List, [], ◌∷◌, ◌++◌, length, drop, refl, sym, ◌∙◌, ap, arith}
+-- Laws of evaluation and of open forms, on trees.
+use Rattle.std.proofs.Common.{◌≡◌, ℕ, suc, ◌≤◌, true, false, List, [], ◌∷◌, ◌++◌, length, refl, sym, ◌∙◌, ap, append_assoc}
 use Rattle.std.proofs.lemmas.Bool.{cond-true, cond-false, ltb-false}
-use Rattle.std.proofs.lemmas.List.{take_at, drop_at}
+use Rattle.std.proofs.lemmas.List.{append-nil}
 use Rattle.clvm_spec.specs.declared.fuel.Fuel.{Fuel}
 use Rattle.clvm_spec.specs.declared.fuel.Which.TheVariants.{Cost, Depth}
 use Rattle.clvm_spec.specs.Tree.{Tree, Atom, Pair}
@@ -9,11 +9,11 @@ use Rattle.clvm_spec.specs.ProperList.{elements}
 use Rattle.clvm_spec.specs.Path.{path_value}
 use Rattle.clvm_spec.specs.Outcomes.{NoOperator, Outcome, Done, Failed, Spent, Wide}
 use Rattle.clvm_spec.specs.Evaluation.{if_done, charge, is_byte, is_code, at_path, goes_on, in_form, apply_values, values_of, is_too_deep, deeper, operator_form, atom_form, evaluation}
-use Rattle.clvm_spec.specs.OperatorTable.{quote_code, apply_code}
+use Rattle.clvm_spec.specs.OperatorTable.{quote_code, quote_cost, apply_code}
 use Rattle.clvm_spec.specs.Spending.{exceeds}
 use Rattle.clvm_spec.proofs.Steps.{one_step_law}
 use Rattle.clvm_tree.specs.Operators.{outcome_by}
-use Rattle.clvm_eval.specs.PendingWork.{Work, Evaluate, Operate, Going, operated, done_by, worked_off, operand_work, HasOperands, AllHaveOperands}
+use Rattle.clvm_eval.specs.OpenForms.{OpenForm, operated, form_outcome, with_value, goes_through}
 use Rattle.clvm_eval.specs.Steps.{Pays}
 
 -- ---- paying
@@ -41,54 +41,49 @@ if_done-again (Failed why form) f g = refl
 if_done-again (Spent which) f g = refl
 if_done-again Wide f g = refl
 
-pub values_of-then : (value : Tree → Fuel → Outcome) (operands : List Tree) (left : Fuel) (k : List Tree → Fuel → Outcome) (g : Tree → Fuel → Outcome) → if_done (values_of value operands left k) g ≡ values_of value operands left (λ vs l. if_done (k vs l) g)
-values_of-then value [] left k g = refl
-values_of-then value (operand ∷ operands) left k g =
-    values_of-then value operands left (λ vs after. if_done (value operand after) (λ v last. k (v ∷ vs) last)) g
-    ∙ ap (values_of value operands left) (λ i vs after. if_done-again (value operand after) (λ v last. k (v ∷ vs) last) g i)
+pub if_done-done : (o : Outcome) → if_done o Done ≡ o
+if_done-done (Done value left) = refl
+if_done-done (Failed why form) = refl
+if_done-done (Spent which) = refl
+if_done-done Wide = refl
 
--- where both go on in the same way with as many values as there are operands
-pub values_of-same : (value : Tree → Fuel → Outcome) (operands : List Tree) (left : Fuel) (k k' : List Tree → Fuel → Outcome) → ((vs : List Tree) (l : Fuel) → length vs ≡ length operands → k vs l ≡ k' vs l) → values_of value operands left k ≡ values_of value operands left k'
-values_of-same value [] left k k' h = h [] left refl
-values_of-same value (operand ∷ operands) left k k' h =
-    values_of-same value operands left _ _
-    (λ vs after long. ap (if_done (value operand after)) (λ i v last. h (v ∷ vs) last (ap suc long) i))
+-- ---- open forms
 
--- ---- work
+-- The last operand is evaluated first.
+values_of-last : (value : Tree → Fuel → Outcome) (xs : List Tree) (x : Tree) (left : Fuel) (go : List Tree → Fuel → Outcome) →
+    values_of value (xs ++ x ∷ []) left go ≡ if_done (value x left) (λ v after. values_of value xs after (λ vs last. go (vs ++ v ∷ []) last))
+values_of-last value [] x left go = refl
+values_of-last value (y ∷ ys) x left go = values_of-last value ys x left (λ values after. if_done (value y after) (λ v last. go (v ∷ values) last))
 
-pub worked_off-append : (a b : List Work) (go : Going) → worked_off (a ++ b) go ≡ worked_off b (worked_off a go)
-worked_off-append [] b go = refl
-worked_off-append (w ∷ a) b go = worked_off-append a b (done_by w go)
+pub form-last : (opened : OpenForm) (before : List Tree) (program : Tree) (left : Fuel) → opened.programs ≡ before ++ program ∷ [] →
+    form_outcome opened left
+    ≡ if_done (evaluation program opened.env (suc opened.depth) left) (λ v after. form_outcome (with_value (record opened { programs = before }) v) after)
+form-last opened before program left is =
+    let value = λ (operand : Tree). evaluation operand opened.env (suc opened.depth) in
+    let apply = λ (values : List Tree) (after : Fuel). operated opened.code opened.form opened.depth (values ++ opened.values) after in
+    ap (λ ps. values_of value ps left apply) is
+    ∙ values_of-last value before program left apply
+    ∙ ap (if_done (value program left))
+    (λ i v after. values_of value before after (λ vs last. operated opened.code opened.form opened.depth (append_assoc vs (v ∷ []) opened.values i) last))
 
-pub AllHaveOperands-append : (a b : List Work) (go : ℕ → Type 0) → AllHaveOperands (a ++ b) go ≡ AllHaveOperands b (AllHaveOperands a go)
-AllHaveOperands-append [] b go = refl
-AllHaveOperands-append (w ∷ a) b go = AllHaveOperands-append a b (HasOperands w go)
+-- where all values are there
+pub form-ready : (opened : OpenForm) (left : Fuel) → opened.programs ≡ [] → form_outcome opened left ≡ operated opened.code opened.form opened.depth opened.values left
+form-ready opened left none =
+    ap (λ ps. values_of (λ operand. evaluation operand opened.env (suc opened.depth)) ps left (λ values after. operated opened.code opened.form opened.depth (values ++ opened.values) after)) none
 
-pub AllHaveOperands-operands : (env : Tree) (depth : ℕ) (operands : List Tree) (go : ℕ → Type 0) (count : ℕ) → AllHaveOperands (operand_work env depth operands) go count ≡ go (length operands + count)
-AllHaveOperands-operands env depth [] go count = let e : count ≡ 0 + count = omega arith in ap go e
-AllHaveOperands-operands env depth (o ∷ operands) go count =
-    let e : suc (length operands + count) ≡ suc (length operands) + count = omega arith in
-    AllHaveOperands-operands env depth operands (λ n. go (suc n)) count ∙ ap go e
+-- where none is
+pub form-begun : (opened : OpenForm) (code : List ℕ) (left : Fuel) → opened.code ≡ Atom code → opened.values ≡ [] →
+    form_outcome opened left ≡ values_of (λ operand. evaluation operand opened.env (suc opened.depth)) opened.programs left (apply_values evaluation code opened.form opened.depth)
+form-begun opened code left is none =
+    let value = λ (operand : Tree). evaluation operand opened.env (suc opened.depth) in
+    ap (λ c. values_of value opened.programs left (λ values after. operated c opened.form opened.depth (values ++ opened.values) after)) is
+    ∙ ap (λ more. values_of value opened.programs left (λ values after. apply_values evaluation code opened.form opened.depth (values ++ more) after)) none
+    ∙ ap (values_of value opened.programs left) (λ i values after. apply_values evaluation code opened.form opened.depth (append-nil values i) after)
 
--- the operands' values on top of those that were there
-pub worked_off-operands : (env : Tree) (depth : ℕ) (operands : List Tree) (go : Going) (values : List Tree) (left : Fuel) → worked_off (operand_work env depth operands) go values left ≡ values_of (λ operand. evaluation operand env depth) operands left (λ vs after. go (vs ++ values) after)
-worked_off-operands env depth [] go values left = refl
-worked_off-operands env depth (o ∷ operands) go values left = worked_off-operands env depth operands (done_by (Evaluate o env depth) go) values left
-
--- operands and then their operator
-pub worked_off-form : (code : List ℕ) (form env : Tree) (depth count : ℕ) (operands : List Tree) (go : Going) (values : List Tree) (left : Fuel) → length operands ≡ count →
-    worked_off (operand_work env (suc depth) operands) (done_by (Operate (Atom code) form depth count) go) values left
-    ≡ if_done (values_of (λ operand. evaluation operand env (suc depth)) operands left (apply_values evaluation code form depth)) (λ v after. go (v ∷ values) after)
-worked_off-form code form env depth count operands go values left long =
-    let value = λ (operand : Tree). evaluation operand env (suc depth) in
-    worked_off-operands env (suc depth) operands (done_by (Operate (Atom code) form depth count) go) values left
-    ∙ values_of-same value operands left
-    (λ vs after. done_by (Operate (Atom code) form depth count) go (vs ++ values) after)
-    (λ vs after. if_done (apply_values evaluation code form depth vs after) (λ v last. go (v ∷ values) last))
-    (λ vs after same.
-    ap (λ t. if_done (apply_values evaluation code form depth t after) (λ v last. go (v ∷ drop count (vs ++ values)) last)) (take_at vs values count (same ∙ long))
-    ∙ ap (λ d. if_done (apply_values evaluation code form depth vs after) (λ v last. go (v ∷ d) last)) (drop_at vs values count (same ∙ long)))
-    ∙ sym (values_of-then value operands left (apply_values evaluation code form depth) (λ v after. go (v ∷ values) after))
+pub goes_through-last : (opens : List OpenForm) (opened : OpenForm) (go : Tree → Fuel → Outcome) →
+    goes_through (opens ++ opened ∷ []) go ≡ (λ value left. if_done (form_outcome (with_value opened value) left) (goes_through opens go))
+goes_through-last [] opened go = refl
+goes_through-last (o ∷ opens) opened go = goes_through-last opens opened (λ value left. if_done (form_outcome (with_value o value) left) go)
 
 -- ---- the operator of a code
 
@@ -115,7 +110,7 @@ atom_form_is program env depth left head rest code is atom =
     let whole : program ≡ Pair (Atom code) rest = is ∙ ap (λ h. Pair h rest) atom in
     ap (λ p. evaluation p env depth left) whole ∙ one_step_law (Pair (Atom code) rest) env depth left
 
-pub ev-quote : (program env : Tree) (depth : ℕ) (left : Fuel) (head rest : Tree) (code : List ℕ) → program ≡ Pair head rest → head ≡ Atom code → is_byte quote_code code ≡ true → evaluation program env depth left ≡ charge 20 left (Done rest)
+pub ev-quote : (program env : Tree) (depth : ℕ) (left : Fuel) (head rest : Tree) (code : List ℕ) → program ≡ Pair head rest → head ≡ Atom code → is_byte quote_code code ≡ true → evaluation program env depth left ≡ charge quote_cost left (Done rest)
 ev-quote program env depth left head rest code is atom quote =
     atom_form_is program env depth left head rest code is atom ∙ cond-true (is_byte quote_code code) _ _ quote
 
