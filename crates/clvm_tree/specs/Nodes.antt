@@ -1,6 +1,6 @@
 -- What contracts say of the nodes of a `Trees`, which they see as the list of the trees that its nodes stand for.
 -- A node is its place in that list. This project's own.
-use Rattle.std.specs.Prelude.{◌≡◌, ℕ, ◌+◌, ◌<◌, ◌≤◌, List, [], ◌∷◌, ◌++◌, length, slice_index_or}
+use Rattle.std.specs.Prelude.{◌≡◌, ℕ, ◌+◌, ◌<◌, ◌≤◌, List, [], ◌∷◌, ◌++◌, length, Option, Some, None, slice_index_or}
 use Rattle.clvm_spec.specs.Tree.{Tree, Atom, Pair, nil}
 use Rattle.clvm_tree.specs.declared.Node.{Node}
 
@@ -36,6 +36,11 @@ pub record HasParts (trees : List Tree) (node first rest : ℕ) : Type 0 where
   pub pair : tree_at trees node ≡ Pair (tree_at trees first) (tree_at trees rest)
   pub first_earlier : first < node
   pub rest_earlier : rest < node
+
+-- the byte of an atom of one byte; no other tree has one
+abbrev pub single_byte : Tree → Option ℕ
+single_byte (Atom (byte ∷ [])) = Some byte
+single_byte _ = None
 
 pub record IsAtom (tree : Tree) : Type 0 where
   pub bytes : List ℕ

@@ -1,6 +1,6 @@
-ghost use Rattle.std.specs.Prelude.{◌≡◌, ℕ, ◌+◌, ◌<◌, ◌^◌, [], ◌∷◌, length, IfOk, OnErr, MatchOption};
+ghost use Rattle.std.specs.Prelude.{◌≡◌, ℕ, ◌+◌, ◌<◌, ◌^◌, [], ◌∷◌, length, IsTrue, ◌↔◌, IfOk, OnErr, MatchOption};
 ghost use Rattle.clvm_spec.specs.Tree.{Atom, Pair, nil};
-ghost use Rattle.clvm_tree.specs.Nodes.{first_trees, tree_at, IsKnown, Grows, Adds, HasParts, IsAtom, IsPair};
+ghost use Rattle.clvm_tree.specs.Nodes.{first_trees, tree_at, IsKnown, Grows, Adds, HasParts, IsAtom, IsPair, single_byte};
 ghost use Rattle.clvm_tree.specs.Sights.{Shows};
 
 use crate::{Node, OutOfMemory};
@@ -151,6 +151,25 @@ impl Trees {
         match self.look(node) {
             Sight::Bytes(_) => None,
             Sight::Parts(first, rest) => Some((first, rest)),
+        }
+    }
+
+    /// Whether the node is the empty atom.
+    pub fn is_nil(&self, node: Node) -> bool
+        requires { IsKnown self.now node.0 }
+        ensures { IsTrue result ↔ (tree_at self.now node.0 ≡ nil) }
+    {
+        matches!(self.look(node), Sight::Bytes([]))
+    }
+
+    /// The byte of an atom of one byte, None for all other nodes.
+    pub fn byte_of(&self, node: Node) -> Option<u8>
+        requires { IsKnown self.now node.0 }
+        ensures { result ≡ single_byte (tree_at self.now node.0) }
+    {
+        match self.look(node) {
+            Sight::Bytes([byte]) => Some(*byte),
+            _ => None,
         }
     }
 

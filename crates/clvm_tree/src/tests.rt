@@ -128,6 +128,7 @@ fn makes_and_takes_apart(rt: HostRuntime) -> Result<(), OutOfMemory> {
     let pair = trees.pair(rt.alloc(), atom, nil)?;
     assert!(rt; trees.len() == 4 && trees.as_pair(pair) == Some((atom, nil)));
     assert!(rt; trees.bytes_of(atom) == Some(b"abc".as_slice()));
+    assert!(rt; trees.is_nil(nil) && trees.byte_of(trees.one()) == Some(1));
     Ok(())
 }
 

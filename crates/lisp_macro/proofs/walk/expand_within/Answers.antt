@@ -5,7 +5,7 @@ use Rattle.lisp_spec.specs.Expansion.{expansion, expanded_part}
 use Rattle.lisp_macro.specs.Faults.{IsMacroFault}
 use Rattle.lisp_macro.specs.Walks.{part_of, level_goes, walked_off, next_expanded, levels_left, next_left}
 use Rattle.lisp_macro.proofs.WalkLaws.{left_push, popped_same, fault_is}
-use Rattle.lisp_macro.proofs.walk.expand.Goals as goal
+use Rattle.lisp_macro.proofs.walk.expand_within.Goals as goal
 
 pub returns-in_err-next-in-Looks-clause-fault : goal.returns-in_err-next-in-Looks-clause-fault
 returns-in_err-next-in-Looks-clause-fault c =
