@@ -9,7 +9,8 @@ use Rattle.clvm_spec.specs.ProperList.{elements}
 use Rattle.clvm_spec.specs.Path.{path_value}
 use Rattle.clvm_spec.specs.Outcomes.{NoOperator, Outcome, Done, Failed, Spent, Wide}
 use Rattle.clvm_spec.specs.Evaluation.{if_done, charge, is_byte, is_code, at_path, goes_on, in_form, apply_values, values_of, is_too_deep, deeper, operator_form, atom_form, evaluation}
-use Rattle.clvm_spec.specs.OperatorTable.{quote_code, quote_cost, apply_code}
+use Rattle.clvm_spec.specs.declared.costs.TheConstants.{QUOTE_COST}
+use Rattle.clvm_spec.specs.OperatorTable.{quote_code, apply_code}
 use Rattle.clvm_spec.specs.Spending.{exceeds}
 use Rattle.clvm_spec.proofs.Steps.{one_step_law}
 use Rattle.clvm_tree.specs.Operators.{outcome_by}
@@ -110,7 +111,7 @@ atom_form_is program env depth left head rest code is atom =
     let whole : program ≡ Pair (Atom code) rest = is ∙ ap (λ h. Pair h rest) atom in
     ap (λ p. evaluation p env depth left) whole ∙ one_step_law (Pair (Atom code) rest) env depth left
 
-pub ev-quote : (program env : Tree) (depth : ℕ) (left : Fuel) (head rest : Tree) (code : List ℕ) → program ≡ Pair head rest → head ≡ Atom code → is_byte quote_code code ≡ true → evaluation program env depth left ≡ charge quote_cost left (Done rest)
+pub ev-quote : (program env : Tree) (depth : ℕ) (left : Fuel) (head rest : Tree) (code : List ℕ) → program ≡ Pair head rest → head ≡ Atom code → is_byte quote_code code ≡ true → evaluation program env depth left ≡ charge QUOTE_COST left (Done rest)
 ev-quote program env depth left head rest code is atom quote =
     atom_form_is program env depth left head rest code is atom ∙ cond-true (is_byte quote_code code) _ _ quote
 

@@ -4,12 +4,12 @@ use Rattle.std.specs.Prelude.{Result, Ok, Err, option_map}
 use Rattle.std.proofs.lemmas.List.{append-nil, map-append, length-append, length-map, length-take-le, length-drop, drop_at, take_all, take-append-le, take-take, drop_more, drop_all}
 use Rattle.clvm_spec.specs.declared.fuel.Fuel.{Fuel}
 use Rattle.clvm_spec.specs.declared.fuel.Which.TheVariants.{Cost, Depth}
-use Rattle.clvm_spec.specs.declared.costs.TheConstants.{FORM_COST}
+use Rattle.clvm_spec.specs.declared.costs.TheConstants.{FORM_COST, APPLY_COST}
 use Rattle.clvm_spec.specs.Tree.{Tree, Atom, Pair}
 use Rattle.clvm_spec.specs.ProperList.{elements}
 use Rattle.clvm_spec.specs.Outcomes.{NotAList, WrongCount, Outcome, Done, Failed, Spent}
 use Rattle.clvm_spec.specs.Evaluation.{if_done, charge, goes_on, in_form, apply_values, values_of, is_too_deep, deeper, operator_form, evaluation, is_code}
-use Rattle.clvm_spec.specs.OperatorTable.{apply_code, apply_cost}
+use Rattle.clvm_spec.specs.OperatorTable.{apply_code}
 use Rattle.clvm_spec.specs.Operators.{is_nil}
 use Rattle.clvm_spec.specs.Spending.{exceeds}
 use Rattle.clvm_spec.proofs.SpendingLaws.{covers}
@@ -250,10 +250,10 @@ goes_on-count form depth (p ∷ []) left h = refl
 goes_on-count form depth (p ∷ e ∷ []) left h = absurd (h refl)
 goes_on-count form depth (p ∷ e ∷ c ∷ more) left h = refl
 
-goes_on-short : (form : Tree) (depth : ℕ) (values : List Tree) (left : Fuel) → length values ≡ 2 → exceeds apply_cost left.cost ≡ true → goes_on evaluation form depth values left ≡ Spent Cost
+goes_on-short : (form : Tree) (depth : ℕ) (values : List Tree) (left : Fuel) → length values ≡ 2 → exceeds APPLY_COST left.cost ≡ true → goes_on evaluation form depth values left ≡ Spent Cost
 goes_on-short form depth [] left two short = absurd (omega arith)
 goes_on-short form depth (p ∷ []) left two short = absurd (omega arith)
-goes_on-short form depth (p ∷ e ∷ []) left two short = charge-short apply_cost left (evaluation p e depth) short
+goes_on-short form depth (p ∷ e ∷ []) left two short = charge-short APPLY_COST left (evaluation p e depth) short
 goes_on-short form depth (p ∷ e ∷ c ∷ more) left two short = absurd (omega arith)
 
 module _ (trees : List Tree) (before : State) (frame : Frame) (opened : IsOpen trees before frame) (none : frame.programs ≡ 0) (apply : is_code apply_code (tree_at trees frame.code.0) ≡ true) where
@@ -278,13 +278,13 @@ module _ (trees : List Tree) (before : State) (frame : Frame) (opened : IsOpen t
   wrong_count other =
       apply_is ∙ ap (λ o. if_done o (goes_out trees before)) (goes_on-count applied_form (length before.frames.items) values before.left (λ e. other (sym values_long ∙ e)))
 
-  pub unpaid_apply : frame.count ≡ 2 → exceeds apply_cost before.left.cost ≡ true → outcome_of trees before (step.Open frame) ≡ Spent Cost
+  pub unpaid_apply : frame.count ≡ 2 → exceeds APPLY_COST before.left.cost ≡ true → outcome_of trees before (step.Open frame) ≡ Spent Cost
   unpaid_apply two short =
       apply_is ∙ ap (λ o. if_done o (goes_out trees before)) (goes_on-short applied_form (length before.frames.items) values before.left (values_long ∙ two) short)
 
   -- the state that goes on with the program
   module _ (after : State) (program env : Node) (start : ℕ) (two : frame.count ≡ 2) (start_is : start + 2 ≡ length before.operands.items) (program_is : program ≡ get_or before.operands.items start program) (env_is : env ≡ get_or before.operands.items (start + 1) env)
-      (frames : after.frames.items ≡ before.frames.items) (operands : after.operands.items ≡ take start before.operands.items) (paid : Pays apply_cost before.left after.left) where
+      (frames : after.frames.items ≡ before.frames.items) (operands : after.operands.items ≡ take start before.operands.items) (paid : Pays APPLY_COST before.left after.left) where
     two_at_end : drop start before.operands.items ≡ program ∷ env ∷ []
     two_at_end =
         let next : start + 1 + 1 ≡ start + 2 = omega arith in
@@ -321,14 +321,14 @@ module _ (trees : List Tree) (before : State) (frame : Frame) (opened : IsOpen t
         ap₂ (λ d go. if_done (evaluation (tree_at trees program.0) (tree_at trees env.0) d after.left) go) (ap length frames)
         (ap₂ (goes_from trees) frames (operands ∙ ap (λ i. take i before.operands.items) (sym at)) ∙ goes_on_below trees before.frames.items before.operands.items frame.count whole)
         ∙ ap (λ o. if_done o (goes_out trees before))
-        (sym (charge-paid apply_cost before.left after.left (evaluation (tree_at trees program.0) (tree_at trees env.0) depth) paid))
+        (sym (charge-paid APPLY_COST before.left after.left (evaluation (tree_at trees program.0) (tree_at trees env.0) depth) paid))
         ∙ ap (λ vs. if_done (goes_on evaluation applied_form depth vs before.left) (goes_out trees before)) (sym vs)
         ∙ sym apply_is
 
-pub applied_on : (trees : List Tree) (before mid after : State) (whole : Outcome) (next : Step) → Pays apply_cost before.left mid.left → Advances trees trees mid after whole next → Advances trees trees before after whole next
+pub applied_on : (trees : List Tree) (before mid after : State) (whole : Outcome) (next : Step) → Pays APPLY_COST before.left mid.left → Advances trees trees mid after whole next → Advances trees trees before after whole next
 applied_on trees before mid after whole next paid advances =
     let left = paid.is in
-    let costs : mid.left.cost ≡ before.left.cost - apply_cost = ap (λ (l : Fuel). l.cost) left in
+    let costs : mid.left.cost ≡ before.left.cost - APPLY_COST = ap (λ (l : Fuel). l.cost) left in
     let pairs : mid.left.pairs ≡ before.left.pairs = ap (λ (l : Fuel). l.pairs) left in
     let bytes : mid.left.bytes ≡ before.left.bytes = ap (λ (l : Fuel). l.bytes) left in
     let r = advances.room in
@@ -389,6 +389,6 @@ module _ (old new : List Tree) (before mid : State) (frame : Frame) (answer : An
       ∙ ap (λ o. if_done (in_form (tree_at old frame.form.0) before.left o) (goes_out old before)) (sym gives.gives)
       ∙ sym (other_part old before frame none other)
 
-pub applied_steps : (trees : List Tree) (before mid after : State) (whole part : Outcome) (result : Result Step RunFault) → Pays apply_cost before.left mid.left → part ≡ whole → StepsTo trees mid after part result → StepsTo trees before after whole result
+pub applied_steps : (trees : List Tree) (before mid after : State) (whole part : Outcome) (result : Result Step RunFault) → Pays APPLY_COST before.left mid.left → part ≡ whole → StepsTo trees mid after part result → StepsTo trees before after whole result
 applied_steps trees before mid after whole part (Ok next) paid is h = applied_on trees before mid after whole next paid (record { sound = h.sound; room = h.room; cheaper = h.cheaper; same = h.same ∙ is })
 applied_steps trees before mid after whole part (Err f) paid is h = subst (λ o. IsRunFault trees o f) is h

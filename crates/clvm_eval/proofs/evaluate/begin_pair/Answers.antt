@@ -1,6 +1,6 @@
 use Rattle.std.proofs.Common.{sym, ◌∙◌, arith}
 use Rattle.clvm_spec.specs.Outcomes.{Done}
-use Rattle.clvm_spec.specs.OperatorTable.{quote_cost}
+use Rattle.clvm_spec.specs.declared.costs.TheConstants.{QUOTE_COST}
 use Rattle.clvm_tree.specs.Nodes.{tree_at}
 use Rattle.clvm_eval.proofs.EvaluationLaws.{ev-pair, ev-quote, charge-paid, charge-short}
 use Rattle.clvm_eval.proofs.evaluate.begin_pair.Goals as goal
@@ -20,7 +20,7 @@ returns-then-not-pay c = λ depth.
     let trees = c.args.trees.now in
     ev-quote (tree_at trees c.args.program.0) (tree_at trees c.args.env.0) depth c.args.left.now (tree_at trees c.args.head.0) (tree_at trees c.args.rest.0) c.in-Bytes.code.now
     c.requires.parts.pair c.in-Bytes.ensures (sym c.is_byte.ensures ∙ c.if-not-is_byte.false)
-    ∙ charge-short quote_cost c.args.left.now (Done (tree_at trees c.args.rest.0)) c.if-not-pay.ensures
+    ∙ charge-short QUOTE_COST c.args.left.now (Done (tree_at trees c.args.rest.0)) c.if-not-pay.ensures
 
 pub returns : goal.returns
 returns c =
@@ -31,8 +31,8 @@ returns c =
       done = λ depth.
           ev-quote (tree_at trees c.args.program.0) (tree_at trees c.args.env.0) depth c.args.left.now (tree_at trees c.args.head.0) (tree_at trees c.args.rest.0) c.in-Bytes.code.now
           c.requires.parts.pair c.in-Bytes.ensures (sym c.is_byte.ensures ∙ c.if-not-is_byte.false)
-          ∙ charge-paid quote_cost c.args.left.now c.pay.new.left (Done (tree_at trees c.args.rest.0)) c.if-not-pay.ensures;
-      cost = quote_cost;
+          ∙ charge-paid QUOTE_COST c.args.left.now c.pay.new.left (Done (tree_at trees c.args.rest.0)) c.if-not-pay.ensures;
+      cost = QUOTE_COST;
       some = omega arith;
       paid = c.if-not-pay.ensures;
     }
