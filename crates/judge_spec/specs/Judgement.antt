@@ -1,19 +1,23 @@
 -- The verdict on a list of payments, which break none of the rules but those below. Source: Chia documentation of the coin
 -- set and of the mempool; the numbers of the rules, their order and places, and the cost of a list are this project's own.
-use Rattle.std.specs.Prelude.{ℕ, suc, ◌+◌, ◌*◌, ◌-◌, ◌||◌, List, [], ◌∷◌, ◌++◌, length, nat_lt, map, Bool, not, Option, Some, None, option_and_then, option_map, unwrap_or, position, if◌then◌else◌}
-use Rattle.std.specs.List.{sum_by, flat_map, list_any}
+use Rattle.std.specs.Prelude.{ℕ, ◌+◌, ◌*◌, ◌-◌, ◌||◌, List, [], ◌∷◌, ◌++◌, length, nat_lt, map, Bool, not, Option, Some, None, option_and_then, option_map, unwrap_or, position, if◌then◌else◌}
+use Rattle.std.specs.List.{sum_by, flat_map}
 use Rattle.std.specs.Str.{bytes_eq}
-use Rattle.clvm_spec.specs.Spelling.{spelling}
 use Rattle.clvm_spec.specs.Hashing.{tree_hash}
 use Rattle.coin_facts.specs.declared.hash32.Hash32.{Hash32}
 use Rattle.coin_facts.specs.declared.coin.Coin.{Coin}
 use Rattle.coin_facts.specs.CoinId.{coin_id}
-use Rattle.block_form.specs.declared.spend.Spend.{Spend}
+use Rattle.coin_facts.specs.IdLists.{is_among, repeat_behind}
+use Rattle.block_spec.specs.declared.spend.Spend.{Spend}
 use Rattle.clvm_spec.specs.Spelled.{spelled_tree}
-use Rattle.block_form.specs.BundleTree.{generator}
-use Rattle.chain_spec.specs.Chain.{Chain, is_same_id, is_in_chain}
-use Rattle.chain_spec.specs.Runs.{Done, run_of}
-use Rattle.chain_spec.specs.Conditions.{Condition, CreateCoin, conditions_of, cost_of_conditions}
+use Rattle.block_spec.specs.Added.{generator_bytes}
+use Rattle.chain_spec.specs.Chain.{Chain, is_in_chain}
+use Rattle.judge_spec.specs.declared.costs.TheConstants.{BYTE_COST}
+use Rattle.judge_spec.specs.declared.rule.Rule.{Rule}
+use Rattle.judge_spec.specs.declared.rule.Rule.TheVariants.{SpentTwice, WrongPuzzleHash, TooCostly, UnknownCoin}
+use Rattle.judge_spec.specs.Rules.{number_of}
+use Rattle.judge_spec.specs.Runs.{Done, run_of}
+use Rattle.cond_spec.specs.Conditions.{Condition, CreateCoin, conditions_of, cost_of_conditions}
 
 -- what a spend's bytes say by themselves: the cost of its run and its conditions, and the conditions
 pub record Facts : Type 0 where
@@ -48,19 +52,11 @@ created_amounts spends = sum_by (λ coin. coin.amount) (created_coins spends)
 
 -- 12,000 for each byte of the generator, and the runs and their conditions
 abbrev pub cost_of : List Spend → ℕ
-cost_of spends = 12_000 * length (spelling (generator spends)) + sum_by (λ spend. (facts_or_none spend).cost) spends
+cost_of spends = BYTE_COST * generator_bytes spends + sum_by (λ spend. (facts_or_none spend).cost) spends
 
 -- the spent amounts less the created ones
 abbrev pub fee_of : List Spend → ℕ
 fee_of spends = spent_amounts spends - created_amounts spends
-
-abbrev pub is_among : List Hash32 → Hash32 → Bool
-is_among ids id = list_any (λ other. is_same_id other id) ids
-
--- the place of the first id that stands at an earlier place too
-abbrev pub repeat_behind : List Hash32 → ℕ → List Hash32 → Option ℕ
-repeat_behind earlier place [] = None
-repeat_behind earlier place (id ∷ ids) = if is_among earlier id then Some place else repeat_behind (id ∷ earlier) (suc place) ids
 
 abbrev pub spent_ids : List Spend → List Hash32
 spent_ids spends = map (λ spend. coin_id spend.coin) spends
@@ -88,9 +84,9 @@ pub data Verdict : Type 0 where
   Broken : (rule place : ℕ) → Verdict
 
 -- A rule that is broken somewhere is answered, else what comes after it.
-abbrev pub unless_broken : ℕ → Option ℕ → Verdict → Verdict
+abbrev pub unless_broken : Rule → Option ℕ → Verdict → Verdict
 unless_broken rule None verdict = verdict
-unless_broken rule (Some place) verdict = Broken rule place
+unless_broken rule (Some place) verdict = Broken (number_of rule) place
 
 -- Rules 3 and 5, spend by spend behind earlier ones: rule 3 before rule 5, which is broken where the cost of the list up
 -- to this spend and with it is over the limit. A run is a part of that cost.
@@ -98,12 +94,12 @@ abbrev pub spend_by_spend : ℕ → List Spend → List Spend → Verdict → Ve
 spend_by_spend limit earlier [] verdict = verdict
 spend_by_spend limit earlier (spend ∷ spends) verdict =
     if has_its_puzzle spend
-    then (if nat_lt limit (cost_of (earlier ++ spend ∷ [])) then Broken 5 (length earlier) else spend_by_spend limit (earlier ++ spend ∷ []) spends verdict)
-    else Broken 3 (length earlier)
+    then (if nat_lt limit (cost_of (earlier ++ spend ∷ [])) then Broken (number_of TooCostly) (length earlier) else spend_by_spend limit (earlier ++ spend ∷ []) spends verdict)
+    else Broken (number_of WrongPuzzleHash) (length earlier)
 
 -- the first broken rule with its place, or the cost and the fee; the limit is the most that the list may cost
 abbrev pub judgement : Chain → List Spend → ℕ → Verdict
 judgement chain spends limit =
-    unless_broken 2 (spent_twice spends)
+    unless_broken SpentTwice (spent_twice spends)
     (spend_by_spend limit [] spends
-    (unless_broken 11 (unknown_coin chain spends) (Fine (cost_of spends) (fee_of spends))))
+    (unless_broken UnknownCoin (unknown_coin chain spends) (Fine (cost_of spends) (fee_of spends))))

@@ -9,7 +9,3 @@ pub record LimitsView : Type 0 where
   pub pool_cost : ℕ
   pub reward : ℕ
   pub singleton : Hash32
-
--- the most that `max_cost` may be
-abbrev pub greatest_max_cost : ℕ
-greatest_max_cost = 22_000_000_000

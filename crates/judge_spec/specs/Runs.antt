@@ -3,7 +3,7 @@ use Rattle.std.specs.Prelude.{ℕ, Option, Some, None}
 use Rattle.clvm_spec.specs.Tree.{Tree}
 use Rattle.clvm_spec.specs.Outcomes as outcomes
 use Rattle.clvm_spec.specs.Evaluation.{run_outcome, run_cost, fuel_of}
-use Rattle.chain_spec.specs.LimitsView.{greatest_max_cost}
+use Rattle.judge_spec.specs.declared.limits.TheConstants.{GREATEST_MAX_COST}
 
 -- what a run that is done gives, and what it costs
 pub record Done : Type 0 where
@@ -19,4 +19,4 @@ done_of limit outcomes.Wide = None
 -- The limit is the greatest that a session may have. With more fuel a done run stays the same, so the limit is no part of
 -- a verdict but by the rule on costs.
 abbrev pub run_of : Tree → Tree → Option Done
-run_of puzzle solution = done_of greatest_max_cost (run_outcome puzzle solution (fuel_of greatest_max_cost))
+run_of puzzle solution = done_of GREATEST_MAX_COST (run_outcome puzzle solution (fuel_of GREATEST_MAX_COST))

@@ -6,11 +6,11 @@ use std::marker::Model;
 
 /// A list of coins, of which there are fewer than 2^32.
 #[derive(Debug, Drop)]
-pub(crate) struct Coins {
+pub(crate) struct CoinList {
     items: Vec<Coin>,
 }
 
-impl Model for Coins {
+impl Model for CoinList {
     ghost use Rattle.std.specs.Prelude.{◌<◌, ◌^◌, List, length};
     ghost use Rattle.coin_facts.specs.declared.coin.Coin.{Coin};
 
@@ -21,11 +21,11 @@ impl Model for Coins {
     ghost invariant = { λ coins. length coins.items.items < 2 ^ 32 };
 }
 
-impl Coins {
-    pub(crate) fn new(alloc: Global) -> Coins
+impl CoinList {
+    pub(crate) fn new(alloc: Global) -> CoinList
         ensures { result ≡ [] }
     {
-        Coins {
+        CoinList {
             items: Vec::new(alloc),
         }
     }

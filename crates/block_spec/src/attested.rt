@@ -1,5 +1,5 @@
 ghost use Rattle.std.specs.Prelude.{◌≡◌, ◌+◌, ◌<◌, ◌^◌, ◌↔◌, [], ◌∷◌, ◌++◌, length, IsTrue, OnOk, OnErr};
-ghost use Rattle.block_form.specs.Attestable.{IsAttestable, AreAttestable};
+ghost use Rattle.block_spec.specs.Attestable.{IsAttestable, AreAttestable};
 
 use coin_facts::{Bytes, OutOfMemory};
 use std::alloc::Global;
@@ -21,8 +21,8 @@ pub struct Attested {
 
 impl Model for Attested {
     ghost use Rattle.std.specs.Prelude.{◌<◌, ◌^◌, List, length};
-    ghost use Rattle.block_form.specs.declared.attested.Signed.{Signed};
-    ghost use Rattle.block_form.specs.Attestable.{AreAttestable};
+    ghost use Rattle.block_spec.specs.declared.attested.Signed.{Signed};
+    ghost use Rattle.block_spec.specs.Attestable.{AreAttestable};
 
     ghost Value = { List Signed };
 

@@ -13,7 +13,7 @@ pub struct Spends {
 
 impl Model for Spends {
     ghost use Rattle.std.specs.Prelude.{◌<◌, ◌^◌, List, length};
-    ghost use Rattle.block_form.specs.declared.spend.Spend.{Spend};
+    ghost use Rattle.block_spec.specs.declared.spend.Spend.{Spend};
 
     ghost Value = { List Spend };
 

@@ -13,7 +13,7 @@ pub struct Spend {
 impl Model for Spend {
     ghost use Rattle.std.specs.Prelude.{IsTrue};
     ghost use Rattle.clvm_spec.specs.Spelled.{is_spelled};
-    ghost use Rattle.block_form.specs.SpendView.{SpendView};
+    ghost use Rattle.block_spec.specs.SpendView.{SpendView};
 
     ghost Value = { SpendView };
 

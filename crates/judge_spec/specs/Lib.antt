@@ -1,0 +1,4 @@
+pub mod Rules
+pub mod LimitsView
+pub mod Runs
+pub mod Judgement
