@@ -17,7 +17,7 @@ use Rattle.judge_spec.specs.declared.rule.Rule.{Rule}
 use Rattle.judge_spec.specs.declared.rule.Rule.TheVariants.{SpentTwice, WrongPuzzleHash, TooCostly, UnknownCoin}
 use Rattle.judge_spec.specs.Rules.{number_of}
 use Rattle.judge_spec.specs.Runs.{Done, run_of}
-use Rattle.cond_spec.specs.Conditions.{Condition, CreateCoin, conditions_of, cost_of_conditions}
+use Rattle.judge_spec.specs.FirstConditions.{Condition, CreateCoin, conditions_of, cost_of_conditions}
 
 -- what a spend's bytes say by themselves: the cost of its run and its conditions, and the conditions
 pub record Facts : Type 0 where

@@ -14,9 +14,8 @@ use crate::coin_list::CoinList;
 use crate::operands::{amount_of, hash_of};
 use clvm_tree::{Node, Trees};
 use coin_facts::{Coin, Hash32, OutOfMemory};
+use cond_spec::codes::CREATE_COIN;
 use std::alloc::Global;
-
-const CREATE_COIN: u8 = 51;
 
 // Whether a node is the atom of this one byte.
 pub(crate) fn is_code(trees: &Trees, node: Node, code: u8) -> bool

@@ -8,7 +8,7 @@ use Rattle.block_spec.specs.declared.bundle.Bundle.{Bundle}
 use Rattle.clvm_spec.specs.Spelled.{spelled_tree}
 use Rattle.clvm_spec.specs.Evaluation.{is_code}
 use Rattle.chain_spec.specs.Chain.{Chain, is_in_chain}
-use Rattle.cond_spec.specs.Conditions.{conditions_of}
+use Rattle.judge_spec.specs.FirstConditions.{conditions_of}
 use Rattle.judge_spec.specs.Judgement.{created_ids, created_amounts, spent_amounts}
 use Rattle.coin_facts.specs.IdLists.{repeat_behind}
 
