@@ -14,6 +14,7 @@ use crate::members::{coin, has, hash, whole};
 use block_form::Bundle;
 use coin_facts::{Hash32, Ids};
 use coin_store::{StartFault, Store};
+use judge_spec::limits::{DEFAULT_MAX_COST, DEFAULT_POOL_COST};
 use pool_core::Pool;
 use pool_spec::Limits;
 use serde_json::Value;
@@ -144,8 +145,8 @@ fn default_limits() -> Limits
     ensures { result ≡ default_limits }
 {
     Limits {
-        max_cost: 11_000_000_000,
-        pool_cost: 110_000_000_000,
+        max_cost: DEFAULT_MAX_COST,
+        pool_cost: DEFAULT_POOL_COST,
         reward: 0,
         singleton: Hash32 { bytes: [0; 32] },
     }
