@@ -19,6 +19,7 @@ fn line(alloc: Global, program: &str, arguments: &[&str]) -> Result<String, Fail
         _ => Ok(String::new(alloc)),
     }
 }
+
 #[test]
 fn curries_in_hexadecimal(rt: HostRuntime) -> Result<(), Fail> {
     let rows = [
