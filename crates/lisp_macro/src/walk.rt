@@ -1,6 +1,6 @@
 //! The expansion of a form by macros, from the outside in, with a stack in place of a recursion.
 
-ghost use Rattle.std.specs.Prelude.{◌≡◌, ℕ, List, is_some, IfOk, IfErr};
+ghost use Rattle.std.specs.Prelude.{◌≡◌, ℕ, List, is_some, Err, IfOk, IfErr};
 ghost use Rattle.lisp_read.specs.Views.{form_of};
 ghost use Rattle.lisp_read.specs.Copies.{size};
 ghost use Rattle.lisp_spec.specs.FormParts as parts;
@@ -8,6 +8,7 @@ ghost use Rattle.lisp_spec.specs.FormLists.{form_elements};
 ghost use Rattle.lisp_spec.specs.Macros.{Macro, macro_named};
 ghost use Rattle.lisp_spec.specs.Expansion.{Expands, call_kind, kind_of, written_at, expanded_part, expansion};
 ghost use Rattle.lisp_macro.specs.Faults.{IsMacroFault};
+ghost use Rattle.lisp_macro.specs.declared.fault.MacroFault.TheVariants as faults;
 ghost use Rattle.lisp_macro.specs.Walks.{part_of, pair_of, IsKind, level_goes, level_left, StepsTo};
 
 use crate::MacroFault;
@@ -214,8 +215,27 @@ fn go_on(
 
 /// The form with each call of a macro replaced by what its body gives, from the outside in. The turns are those that are
 /// left, and fall by those used. A fault stands at the outermost call, the one that is written in the form. Where memory is
-/// wanting, of the turns nothing is said.
+/// wanting the turns stand as before.
 pub fn expand(
+    alloc: Global,
+    form: &Form,
+    macros: &Macros,
+    turns: &mut u32,
+) -> Result<Form, MacroFault>
+    ensures expanded { IfOk result (λ expanded. expansion macros.now (form_of form.now) turns.old ≡ Expands (form_of expanded) turns.new) }
+    ensures fault { IfErr result (IsMacroFault (expansion macros.now (form_of form.now) turns.old) turns.new) }
+    ensures out_of_memory { result ≡ Err faults.OutOfMemory → turns.new ≡ turns.old }
+{
+    let mut left = *turns;
+    let expanded = expand_within(alloc, form, macros, &mut left);
+    if !matches!(expanded, Err(MacroFault::OutOfMemory)) {
+        *turns = left;
+    }
+    expanded
+}
+
+// Where memory is wanting, of the turns nothing is said.
+fn expand_within(
     alloc: Global,
     form: &Form,
     macros: &Macros,
