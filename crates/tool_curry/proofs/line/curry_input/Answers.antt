@@ -4,14 +4,14 @@ use Rattle.tool_curry.proofs.line.curry_input.Goals as goal
 
 pub read_arguments-requires : goal.read_arguments-requires
 read_arguments-requires c =
-    omega (arith, c.read_input.ensures.few, ap length c.new-trees.ensures, c.requires, ap (sum_by length) c.as_slice.ensures.value, leb-true _ _ c.as_slice.ensures.short)
+    omega (arith, c.read_input.ensures.few, c.new-trees.ensures.count, c.requires, ap (sum_by length) c.as_slice.ensures.value, leb-true _ _ c.as_slice.ensures.short)
 
 pub curry-requires-clause-fits : goal.curry-requires-clause-fits
 curry-requires-clause-fits c =
     omega (
       arith,
       c.read_input.ensures.few,
-      ap length c.new-trees.ensures,
+      c.new-trees.ensures.count,
       c.requires,
       ap (sum_by length) c.as_slice.ensures.value,
       leb-true _ _ c.as_slice.ensures.short,
