@@ -6,7 +6,7 @@ use Rattle.lisp_spec.specs.Forms.{Form, Place}
 use Rattle.lisp_spec.specs.Forms as form
 use Rattle.lisp_spec.specs.Modules.{Module, Definition, Constant, definition_named, constant_named}
 use Rattle.lisp_spec.specs.Heads.{Head, QuotesRest, QuotesOne, Templates, Unquotes, Chooses, Lists, Operates, Calls, head_of}
-use Rattle.lisp_spec.specs.FormLists.{form_elements, form_list, headed, single, is_symbol}
+use Rattle.lisp_read.specs.FormLists.{form_elements, form_list, headed, single, is_symbol}
 use Rattle.lisp_spec.specs.Parameters.{Side, ToFirst, ToRest, Parameter, parameters, path_of}
 use Rattle.lisp_spec.specs.Quoted.{quoted_form, symbol_tree}
 use Rattle.lisp_spec.specs.Curried.{quote_of}

@@ -4,7 +4,7 @@ use Rattle.std.specs.Prelude.{option_and_then, codes}
 use Rattle.clvm_spec.specs.Tree.{Tree, Atom, Pair, list_tree}
 use Rattle.lisp_spec.specs.Forms.{Form, Place}
 use Rattle.lisp_spec.specs.Forms as form
-use Rattle.lisp_spec.specs.FormLists.{form_elements, single, the_only, is_symbol}
+use Rattle.lisp_read.specs.FormLists.{form_elements, single, the_only, is_symbol}
 use Rattle.lisp_spec.specs.Heads.{Head, QuotesRest, QuotesOne, Templates, Unquotes, Chooses, Lists, Operates, Calls, head_of}
 use Rattle.lisp_spec.specs.Modules.{Definition, Constant, definition_named, constant_named}
 use Rattle.lisp_spec.specs.Parameters.{Side, ToRest}

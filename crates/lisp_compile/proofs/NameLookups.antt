@@ -4,7 +4,7 @@ use Rattle.clvm_spec.specs.Tree.{Tree}
 use Rattle.clvm_spec.specs.OperatorTable.{operator_named}
 use Rattle.lisp_spec.specs.Forms.{Form, Place}
 use Rattle.lisp_spec.specs.Forms as form
-use Rattle.lisp_spec.specs.FormLists.{form_elements, form_list, headed}
+use Rattle.lisp_read.specs.FormLists.{form_elements, form_list, headed}
 use Rattle.lisp_spec.specs.Heads.{Lists, Operates, head_of}
 use Rattle.lisp_spec.specs.Parameters.{Side, ToFirst, ToRest, Parameter, parameters, path_of}
 use Rattle.lisp_spec.specs.Environments.{step_name, part_of_operand, expression_at}

@@ -2,7 +2,6 @@
 #![tactic(auto)]
 
 mod forms;
-mod head;
 mod parameters;
 mod path;
 mod pieces;

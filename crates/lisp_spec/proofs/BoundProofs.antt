@@ -6,7 +6,7 @@ use Rattle.clvm_spec.specs.Operators.{is_nil}
 use Rattle.clvm_spec.specs.OperatorTable.{operator_named}
 use Rattle.lisp_spec.specs.Forms.{Form, Place}
 use Rattle.lisp_spec.specs.Forms as form
-use Rattle.lisp_spec.specs.FormLists.{form_elements, form_list, headed, is_symbol}
+use Rattle.lisp_read.specs.FormLists.{form_elements, form_list, headed, is_symbol}
 use Rattle.lisp_spec.specs.FormParts.{Part, Expression, Operands, Template, OneTemplate}
 use Rattle.lisp_spec.specs.Heads.{Head, QuotesRest, QuotesOne, Templates, Unquotes, Chooses, Lists, Operates, Calls, head_of}
 use Rattle.lisp_spec.specs.Modules.{Module, Definition, Constant, definition_named, definition_names, constant_names}

@@ -1,3 +1,4 @@
+pub mod NameLaws
 pub mod BodySteps
 pub mod ExpansionSteps
 pub mod BodyShifts

@@ -1,7 +1,6 @@
 pub mod Forms
 pub mod Modules
 pub mod Heads
-pub mod FormLists
 pub mod FormParts
 pub mod Parameters
 pub mod Quoted

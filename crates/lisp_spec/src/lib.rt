@@ -5,6 +5,8 @@
 pub mod constant_laws;
 pub mod curried_laws;
 pub mod expansion_laws;
+pub mod head;
+pub mod limits;
 pub mod meaning_laws;
 pub mod module_laws;
 pub mod nesting_laws;

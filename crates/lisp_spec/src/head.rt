@@ -1,0 +1,66 @@
+//! What a symbol is as the head of an expression.
+
+ghost use Rattle.std.specs.Prelude.{◌≡◌, option_map};
+ghost use Rattle.clvm_spec.specs.OperatorTable.{operator_named};
+ghost use Rattle.lisp_spec.specs.Heads.{head_of, is_own};
+
+use case_table::code_of;
+
+/// What a symbol is as the head of an expression.
+#[derive(Clone, Copy, Debug, PartialEq, Eq)]
+pub enum Head {
+    /// `q`: what follows the head is a tree.
+    QuotesRest,
+    /// `quote`: its one operand is a tree.
+    QuotesOne,
+    /// `qq`: its one operand is a template.
+    Templates,
+    /// `unquote`: its one operand is an expression, in a template.
+    Unquotes,
+    /// `if`: one of two expressions is evaluated.
+    Chooses,
+    /// `list`: the list of its operands.
+    Lists,
+    /// An operator other than `q`, by its code.
+    Operates(u8),
+    /// Every other symbol: a function, an inline, or nothing that is bound.
+    Calls,
+}
+
+// The code of an operator's name.
+fn operator_code(name: &[u8]) -> Option<u8>
+    ensures { result ≡ option_map (λ row. row.code) (operator_named name.now) }
+{
+    match std::str::from_utf8(name) {
+        Ok(name) => code_of(name),
+        Err(_) => None,
+    }
+}
+
+impl Head {
+    /// What the symbol of this name is.
+    #[tactic(auto, unfolding(lisp_spec::specs::Heads::head_of))]
+    pub fn of(name: &[u8]) -> Head
+        ensures { result ≡ head_of name.now }
+    {
+        match name {
+            b"q" => Head::QuotesRest,
+            b"quote" => Head::QuotesOne,
+            b"qq" => Head::Templates,
+            b"unquote" => Head::Unquotes,
+            b"if" => Head::Chooses,
+            b"list" => Head::Lists,
+            _ => match operator_code(name) {
+                Some(code) => Head::Operates(code),
+                None => Head::Calls,
+            },
+        }
+    }
+
+    /// Whether the head is the language's own.
+    pub fn is_own(self) -> bool
+        ensures { result ≡ is_own self }
+    {
+        !matches!(self, Head::Calls)
+    }
+}
