@@ -7,3 +7,6 @@ mod path;
 mod pieces;
 
 pub use lisp_read::OutOfMemory;
+
+#[cfg(test)]
+mod tests;

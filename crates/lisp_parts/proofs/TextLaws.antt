@@ -6,7 +6,7 @@ use Rattle.lisp_spec.specs.Forms.{Form}
 use Rattle.lisp_read.specs.FormLists.{the_only}
 use Rattle.lisp_spec.specs.BuiltIns.{built_in, condition_codes_text, tree_hash_text}
 use Rattle.lisp_spec.specs.ModuleFaults.{Judged}
-use Rattle.lisp_spec.specs.Inclusion.{Texts}
+use Rattle.lisp_spec.specs.Inclusion.{Texts, longest_text}
 use Rattle.ports_io.specs.Outside.{IsTextOf}
 use Rattle.lisp_parts.specs.declared.fault.PartsFault.{PartsFault}
 use Rattle.lisp_parts.specs.declared.fault.PartsFault.TheVariants.{Read, NotAModule, NameTwice, IncludeMissing, LibraryFault, OutOfMemory}

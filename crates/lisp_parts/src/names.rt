@@ -24,10 +24,11 @@ pub(crate) fn as_text(name: &Word) -> &str
 }
 
 /// Whether the language has this name itself.
+#[tactic(auto, unfolding(lisp_spec::specs::Heads::is_reserved))]
 pub(crate) fn is_reserved(name: &Word) -> bool
     ensures { result ≡ is_reserved_name name.now }
 {
-    Head::of(name.as_slice()).is_own() || name.as_slice() == b"mod"
+    Head::of(name.as_slice()).is_own() || name.as_slice() == b"mod".as_slice()
 }
 
 /// Names, each once, in the order in which they were added.

@@ -39,21 +39,27 @@ fn operator_code(name: &[u8]) -> Option<u8>
 
 impl Head {
     /// What the symbol of this name is.
-    #[tactic(auto, unfolding(lisp_spec::specs::Heads::head_of))]
+    #[tactic(auto, unfolding(crate::specs::Heads::head_of))]
     pub fn of(name: &[u8]) -> Head
         ensures { result ≡ head_of name.now }
     {
-        match name {
-            b"q" => Head::QuotesRest,
-            b"quote" => Head::QuotesOne,
-            b"qq" => Head::Templates,
-            b"unquote" => Head::Unquotes,
-            b"if" => Head::Chooses,
-            b"list" => Head::Lists,
-            _ => match operator_code(name) {
+        if name == b"q".as_slice() {
+            Head::QuotesRest
+        } else if name == b"quote".as_slice() {
+            Head::QuotesOne
+        } else if name == b"qq".as_slice() {
+            Head::Templates
+        } else if name == b"unquote".as_slice() {
+            Head::Unquotes
+        } else if name == b"if".as_slice() {
+            Head::Chooses
+        } else if name == b"list".as_slice() {
+            Head::Lists
+        } else {
+            match operator_code(name) {
                 Some(code) => Head::Operates(code),
                 None => Head::Calls,
-            },
+            }
         }
     }
 
