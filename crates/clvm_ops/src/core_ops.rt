@@ -19,6 +19,7 @@ use crate::parts::part_of;
 use crate::shifts::{shift_of_bits, shift_of_number};
 use crate::truth::{all_flag, any_flag, nil_flag};
 use case_table::by_operator;
+use clvm_spec::costs;
 use clvm_tree::{Answer, Fuel, Node, OpFault, Operators, Sight, Trees};
 use std::alloc::Global;
 
@@ -78,14 +79,14 @@ fn apply_code(
     ensures { Answers trees.old trees.new (length operands.now) left (applied (code ∷ []) (trees_at trees.old operands.now)) result }
 {
     macro_rules! arm {
-        ($code:literal, $name:literal, $cost:literal, quote) => {
+        ($code:ident, $name:literal, $cost:ident, quote) => {
             Err(OpFault::NoOperator)
         };
-        ($code:literal, $name:literal, $cost:literal, apply) => {
+        ($code:ident, $name:literal, $cost:ident, apply) => {
             Err(OpFault::NoOperator)
         };
-        ($code:literal, $name:literal, $cost:literal, $operator:ident) => {
-            $operator(alloc, trees, operands, $cost, left)
+        ($code:ident, $name:literal, $cost:ident, $operator:ident) => {
+            $operator(alloc, trees, operands, costs::$cost, left)
         };
     }
     by_operator!(code, arm, Err(OpFault::NoOperator))

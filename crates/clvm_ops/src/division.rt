@@ -12,7 +12,7 @@ ghost use Rattle.clvm_ops.specs.Answering.{Answers};
 use crate::arithmetic::remainder_of;
 use crate::give::charged;
 use crate::operands::two_numbers;
-use clvm_spec::{arithmetic, number_length};
+use clvm_spec::{arithmetic, costs, number_length};
 use clvm_tree::{Answer, Fuel, Node, OpFault, OutOfMemory, Trees, number};
 use std::alloc::Global;
 
@@ -28,7 +28,7 @@ pub(crate) fn quotient_and_remainder(
     ensures { Answers trees.old trees.new (length operands.now) left (quotient_and_remainder cost (trees_at trees.old operands.now)) result }
 {
     let (first, second) = two_numbers(trees, operands)?;
-    let cost = cost as u64 + 6 * (first.len() + second.len()) as u64;
+    let cost = cost as u64 + costs::DIVISION_BYTE_COST * (first.len() + second.len()) as u64;
     let divisor = number(second);
     if arithmetic::is_zero(divisor) {
         return Err(OpFault::ZeroDivisor);
@@ -60,7 +60,7 @@ fn give_division(
     }
 }
 
-// Answers the pair of two numbers' atoms. Each of their bytes costs 10 more.
+// Answers the pair of two numbers' atoms, whose bytes cost more.
 fn give_two(
     alloc: Global,
     trees: &mut Trees,
@@ -74,7 +74,12 @@ fn give_two(
         (written_pair cost (shortest_atom first) (shortest_atom second)) result }
 {
     let size = (number_length(first) + number_length(second)) as u128;
-    let charge = charged(left, cost as u128 + 10 * size, 1, size + 16)?;
+    let charge = charged(
+        left,
+        cost as u128 + costs::RESULT_BYTE_COST as u128 * size,
+        1,
+        size + 2 * costs::ATOM_OVERHEAD as u128,
+    )?;
     let pair = pair_of_two(alloc, trees, first, second)?;
     Ok(charge.answer(pair))
 }

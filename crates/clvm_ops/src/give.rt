@@ -9,7 +9,8 @@ ghost use Rattle.clvm_tree.specs.Nodes.{tree_at, IsKnown};
 ghost use Rattle.clvm_tree.specs.Operators.{IsOpFault};
 ghost use Rattle.clvm_ops.specs.Answering.{Answers, IsCharged};
 
-use clvm_spec::number_length;
+use clvm_spec::limits::NUMBER_BYTES;
+use clvm_spec::{costs, number_length};
 use clvm_tree::{Answer, Fuel, Node, OpFault, Trees, Which};
 use std::alloc::Global;
 
@@ -92,11 +93,16 @@ pub(crate) fn give_atom(
     requires { length trees.old + left.pairs + left.bytes < 2 ^ 31 }
     ensures { (operands : ℕ) → Answers trees.old trees.new operands left (new_atom cost bytes.now) result }
 {
-    let charge = charged(left, cost, 0, bytes.len() as u128 + 8)?;
+    let charge = charged(
+        left,
+        cost,
+        0,
+        bytes.len() as u128 + costs::ATOM_OVERHEAD as u128,
+    )?;
     Ok(charge.answer(trees.atom(alloc, bytes)?))
 }
 
-/// Answers the shortest atom of a number. Each of its bytes costs 10 more.
+/// Answers the shortest atom of a number, whose bytes cost more.
 pub(crate) fn give_number(
     alloc: Global,
     trees: &mut Trees,
@@ -112,8 +118,8 @@ pub(crate) fn give_number(
     give_atom(
         alloc,
         trees,
-        &bytes[16 - size..],
-        cost as u128 + 10 * size as u128,
+        &bytes[NUMBER_BYTES - size..],
+        cost as u128 + costs::RESULT_BYTE_COST as u128 * size as u128,
         left,
     )
 }

@@ -10,6 +10,7 @@ ghost use Rattle.clvm_ops.specs.OperandAtoms.{atoms_at};
 
 use crate::give::{charged, give_flag, give_number};
 use crate::operands::{atom_at, atoms, bytes_of, two_atoms};
+use clvm_spec::costs;
 use clvm_tree::{Answer, Fuel, Node, OpFault, OutOfMemory, Trees};
 use sha2::{Digest, Sha256};
 use std::alloc::Global;
@@ -25,7 +26,7 @@ pub(crate) fn equal_flag(
     ensures { Answers trees.now trees.now (length operands.now) left (equal_flag cost (trees_at trees.now operands.now)) result }
 {
     let (first, second) = two_atoms(trees, operands)?;
-    let size = first.len() as u128 + second.len() as u128;
+    let size = costs::COMPARED_BYTE_COST as u128 * (first.len() as u128 + second.len() as u128);
     give_flag(trees, first == second, cost as u128 + size, left)
 }
 
@@ -40,7 +41,7 @@ pub(crate) fn bytes_greater_flag(
     ensures { Answers trees.now trees.now (length operands.now) left (bytes_greater_flag cost (trees_at trees.now operands.now)) result }
 {
     let (first, second) = two_atoms(trees, operands)?;
-    let size = first.len() as u128 + second.len() as u128;
+    let size = costs::COMPARED_BYTE_COST as u128 * (first.len() as u128 + second.len() as u128);
     give_flag(trees, first > second, cost as u128 + size, left)
 }
 
@@ -59,7 +60,8 @@ pub(crate) fn length_of(
         return Err(OpFault::Count);
     };
     let size = atom_at(trees, 0, *atom)?.len();
-    give_number(alloc, trees, size as i128, cost as u64 + size as u64, left)
+    let cost = cost as u64 + costs::MEASURED_BYTE_COST * size as u64;
+    give_number(alloc, trees, size as i128, cost, left)
 }
 
 pub(crate) fn hash_of(
@@ -74,8 +76,10 @@ pub(crate) fn hash_of(
     ensures { Answers trees.old trees.new (length operands.now) left (hash_of cost (trees_at trees.old operands.now)) result }
 {
     let size = atoms(trees, operands)?;
-    let cost = cost as u128 + 134 * operands.len() as u128 + 2 * size;
-    let charge = charged(left, cost, 0, 32 + 8)?;
+    let cost = cost as u128
+        + costs::HASHED_ATOM_COST as u128 * operands.len() as u128
+        + costs::HASHED_BYTE_COST as u128 * size;
+    let charge = charged(left, cost, 0, 32 + costs::ATOM_OVERHEAD as u128)?;
     let hash = hash_of_all(trees, operands);
     Ok(charge.answer(trees.atom(alloc, &hash)?))
 }
@@ -104,8 +108,10 @@ pub(crate) fn concat_of(
     ensures { Answers trees.old trees.new (length operands.now) left (concat_of cost (trees_at trees.old operands.now)) result }
 {
     let size = atoms(trees, operands)?;
-    let cost = cost as u128 + 135 * operands.len() as u128 + 13 * size;
-    let charge = charged(left, cost, 0, size + 8)?;
+    let cost = cost as u128
+        + costs::JOINED_ATOM_COST as u128 * operands.len() as u128
+        + (costs::JOINED_BYTE_COST + costs::RESULT_BYTE_COST) as u128 * size;
+    let charge = charged(left, cost, 0, size + costs::ATOM_OVERHEAD as u128)?;
     let bytes = all_bytes(alloc, trees, operands)?;
     Ok(charge.answer(trees.atom(alloc, &bytes)?))
 }

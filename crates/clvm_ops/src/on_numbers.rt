@@ -12,7 +12,7 @@ ghost use Rattle.clvm_ops.specs.Folds.{bitwise_of};
 use crate::folds::{BitStep, difference, plus_others, whole_product};
 use crate::give::{give_flag, give_if_held, give_number};
 use crate::operands::{number_at, numbers, two_numbers};
-use clvm_spec::arithmetic;
+use clvm_spec::{arithmetic, costs};
 use clvm_tree::{Answer, Fuel, Node, OpFault, Trees, number};
 use std::alloc::Global;
 
@@ -28,7 +28,9 @@ pub(crate) fn sum_of(
     ensures { Answers trees.old trees.new (length operands.now) left (sum_of cost (trees_at trees.old operands.now)) result }
 {
     let size = numbers(trees, operands)?;
-    let cost = cost as u64 + 320 * operands.len() as u64 + 3 * size;
+    let cost = cost as u64
+        + costs::TERM_COST * operands.len() as u64
+        + costs::TERM_BYTE_COST * size;
     let sum = plus_others(trees, 0, operands);
     give_if_held(alloc, trees, sum, cost, left)
 }
@@ -45,7 +47,9 @@ pub(crate) fn difference_of(
     ensures { Answers trees.old trees.new (length operands.now) left (difference_of cost (trees_at trees.old operands.now)) result }
 {
     let size = numbers(trees, operands)?;
-    let cost = cost as u64 + 320 * operands.len() as u64 + 3 * size;
+    let cost = cost as u64
+        + costs::TERM_COST * operands.len() as u64
+        + costs::TERM_BYTE_COST * size;
     let difference = difference(trees, operands);
     give_if_held(alloc, trees, difference, cost, left)
 }
@@ -80,7 +84,7 @@ pub(crate) fn quotient_of(
     ensures { Answers trees.old trees.new (length operands.now) left (quotient_of cost (trees_at trees.old operands.now)) result }
 {
     let (first, second) = two_numbers(trees, operands)?;
-    let cost = cost as u64 + 4 * (first.len() + second.len()) as u64;
+    let cost = cost as u64 + costs::QUOTIENT_BYTE_COST * (first.len() + second.len()) as u64;
     let divisor = number(second);
     if arithmetic::is_zero(divisor) {
         return Err(OpFault::ZeroDivisor);
@@ -100,8 +104,8 @@ pub(crate) fn greater_flag(
     ensures { Answers trees.now trees.now (length operands.now) left (greater_flag cost (trees_at trees.now operands.now)) result }
 {
     let (first, second) = two_numbers(trees, operands)?;
-    let cost = cost as u128 + 2 * (first.len() + second.len()) as u128;
-    give_flag(trees, is_greater(first, second), cost, left)
+    let cost = cost as u64 + costs::GREATER_BYTE_COST * (first.len() + second.len()) as u64;
+    give_flag(trees, is_greater(first, second), cost as u128, left)
 }
 
 // Whether the first number is larger.
@@ -128,7 +132,7 @@ pub(crate) fn complement_of(
         return Err(OpFault::Count);
     };
     let bytes = number_at(trees, 0, *operand)?;
-    let cost = cost as u64 + 3 * bytes.len() as u64;
+    let cost = cost as u64 + costs::COMPLEMENT_BYTE_COST * bytes.len() as u64;
     let complement = complement(bytes);
     give_number(alloc, trees, complement, cost, left)
 }
@@ -197,7 +201,9 @@ fn bits_of(
         (bits_of (bitwise_of step) cost (trees_at trees.old operands.now)) result }
 {
     let size = numbers(trees, operands)?;
-    let cost = cost as u64 + 264 * operands.len() as u64 + 3 * size;
+    let cost = cost as u64
+        + costs::BITS_COST * operands.len() as u64
+        + costs::BITS_BYTE_COST * size;
     let bits = step.of_all(trees, operands);
     give_number(alloc, trees, bits, cost, left)
 }

@@ -10,6 +10,7 @@ ghost use Rattle.clvm_ops.specs.Answering.{Answers};
 
 use crate::give::charged;
 use crate::operands::{atom_at, bytes_of, number_at};
+use clvm_spec::costs;
 use clvm_tree::{Answer, Fuel, Node, OpFault, Trees, number};
 use std::alloc::Global;
 
@@ -93,7 +94,12 @@ fn give_part(
     let Some(bytes) = part_within(bytes, start, end) else {
         return Err(OpFault::Operand(1));
     };
-    let charge = charged(left, cost as u128, 0, bytes.len() as u128 + 8)?;
+    let charge = charged(
+        left,
+        cost as u128,
+        0,
+        bytes.len() as u128 + costs::ATOM_OVERHEAD as u128,
+    )?;
     let copy = Vec::from_slice(alloc, bytes)?;
     Ok(charge.answer(trees.atom(alloc, &copy)?))
 }

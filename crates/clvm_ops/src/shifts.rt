@@ -1,6 +1,7 @@
 //! Shifts.
 
 ghost use Rattle.std.specs.Prelude.{◌≡◌, ℕ, ◌+◌, ◌<◌, ◌≤◌, ◌^◌, length};
+ghost use Rattle.clvm_spec.specs.declared.limits.TheConstants.{NUMBER_BYTES};
 ghost use Rattle.clvm_spec.specs.Operators.{or_wide, new_shifted, shift_of_number, shift_of_bits};
 ghost use Rattle.clvm_tree.specs.Nodes.{AreKnown};
 ghost use Rattle.clvm_tree.specs.Operators.{trees_at};
@@ -10,7 +11,7 @@ use crate::arithmetic::{bits_shifted, shifted};
 use crate::give::give_number;
 use crate::operands::two_numbers;
 use clvm_spec::arithmetic::is_shift_amount;
-use clvm_spec::number_length;
+use clvm_spec::{costs, number_length};
 use clvm_tree::{Answer, Fuel, Node, OpFault, Trees, number, unsigned};
 use std::alloc::Global;
 
@@ -56,7 +57,7 @@ pub(crate) fn shift_of_bits(
     give_shifted(alloc, trees, bits, size, cost, left)
 }
 
-// Answers a shifted number where there is one. The value's size and its own cost 3 for each byte, whatever the shift's is.
+// Answers a shifted number where there is one. The bytes of the value and its own cost more, those of the shift don't.
 fn give_shifted(
     alloc: Global,
     trees: &mut Trees,
@@ -65,13 +66,13 @@ fn give_shifted(
     cost: u32,
     left: Fuel,
 ) -> Result<Answer, OpFault>
-    requires size { size ≤ 16 }
+    requires size { size ≤ NUMBER_BYTES }
     requires fits { length trees.old + left.pairs + left.bytes < 2 ^ 31 }
     ensures { (operands : ℕ) → Answers trees.old trees.new operands left (or_wide number (new_shifted cost size)) result }
 {
     match number {
         Some(number) => {
-            let cost = cost as u64 + 3 * (size + number_length(number)) as u64;
+            let cost = cost as u64 + costs::SHIFT_BYTE_COST * (size + number_length(number)) as u64;
             give_number(alloc, trees, number, cost, left)
         }
         None => Err(OpFault::Wide),

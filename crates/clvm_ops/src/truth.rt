@@ -8,6 +8,7 @@ ghost use Rattle.clvm_ops.specs.Answering.{Answers};
 
 use crate::give::give_flag;
 use crate::on_trees::is_nil;
+use clvm_spec::costs;
 use clvm_tree::{Answer, Fuel, Node, OpFault, Trees};
 use std::alloc::Global;
 
@@ -40,7 +41,7 @@ pub(crate) fn any_flag(
     give_flag(
         trees,
         is_one_true(trees, operands),
-        cost as u128 + 300 * operands.len() as u128,
+        cost as u128 + costs::TRUTH_COST as u128 * operands.len() as u128,
         left,
     )
 }
@@ -58,7 +59,7 @@ pub(crate) fn all_flag(
     give_flag(
         trees,
         are_all_true(trees, operands),
-        cost as u128 + 300 * operands.len() as u128,
+        cost as u128 + costs::TRUTH_COST as u128 * operands.len() as u128,
         left,
     )
 }

@@ -1,6 +1,7 @@
 use Rattle.std.proofs.Common.{◌≡◌, ◌+◌, ◌*◌, ◌-◌, ◌∙◌, ap, sym}
 use Rattle.std.specs.Prelude.{slice_range}
 use Rattle.std.proofs.lemmas.Int.{to_z-of_z}
+use Rattle.clvm_spec.specs.declared.costs.TheConstants.{RESULT_BYTE_COST}
 use Rattle.clvm_spec.specs.Numbers.{shortest_atom}
 use Rattle.clvm_spec.specs.Operators.{new_atom}
 use Rattle.clvm_spec.proofs.LengthLaws.{shortest_end}
@@ -14,4 +15,4 @@ returns c = λ n.
     let long = simp (to_z-of_z, c.ranges.number) at c.number_length-size.ensures.length in
     let atom : shortest_atom c.args.number ≡ slice_range c.to_be_bytes-bytes.result (16 - size) 16 = sym (shortest_end c.args.number size c.to_be_bytes-bytes.result long bytes) in
     answers_same c.args.trees.now c.give_atom.new.trees n c.args.left _ _ _
-    (new_number_held c.args.cost c.args.number c.ranges.number ∙ ap (λ k. new_atom (c.args.cost + 10 * k) (shortest_atom c.args.number)) (sym long) ∙ ap (new_atom (c.args.cost + 10 * size)) atom) (c.give_atom.ensures n)
+    (new_number_held c.args.cost c.args.number c.ranges.number ∙ ap (λ k. new_atom (c.args.cost + RESULT_BYTE_COST * k) (shortest_atom c.args.number)) (sym long) ∙ ap (new_atom (c.args.cost + RESULT_BYTE_COST * size)) atom) (c.give_atom.ensures n)

@@ -1,6 +1,7 @@
-use Rattle.std.proofs.Common.{◌+◌, ◌<◌, ◌^◌, ◌∙◌, length, ap, sym, arith, rules}
+use Rattle.std.proofs.Common.{◌+◌, ◌*◌, ◌<◌, ◌^◌, ◌∙◌, length, ap, sym, arith, rules}
 use Rattle.std.specs.Int.{w128}
 use Rattle.std.proofs.lemmas.Int.{to_z_pos}
+use Rattle.clvm_spec.specs.declared.costs.TheConstants.{MEASURED_BYTE_COST}
 use Rattle.clvm_spec.specs.Operators.{length_of, new_number}
 use Rattle.clvm_ops.proofs.Answered.{faulty, answers_same}
 use Rattle.clvm_ops.proofs.AtomLaws.{length_of_is}
@@ -20,4 +21,4 @@ returns c =
     let bytes = c.in_ok-size.field-0.now in
     let long : length bytes < 2 ^ 63 = search rules in
     answers_same trees c.give_number.new.trees (length c.args.operands.now) c.args.left _ _ _
-    (length_of_is c.args.cost _ _ bytes list c.in_ok-size.ensures.ok ∙ ap (new_number (c.args.cost + length bytes)) (sym (to_z_pos w128 (length bytes) (omega arith)))) (c.give_number.ensures (length c.args.operands.now))
+    (length_of_is c.args.cost _ _ bytes list c.in_ok-size.ensures.ok ∙ ap (new_number (c.args.cost + MEASURED_BYTE_COST * length bytes)) (sym (to_z_pos w128 (length bytes) (omega arith)))) (c.give_number.ensures (length c.args.operands.now))
