@@ -6,11 +6,13 @@ use Rattle.clvm_spec.specs.Tree.{Tree, Atom, list_tree}
 use Rattle.lisp_spec.specs.Forms.{Form, Place}
 use Rattle.lisp_spec.specs.Forms as form
 use Rattle.lisp_spec.specs.Modules.{Module, Definition, Constant, definition_named, constant_named}
-use Rattle.lisp_spec.specs.Heads.{Head, QuotesRest, QuotesOne, Templates, Unquotes, Chooses, Lists, Operates, Calls, head_of}
+use Rattle.lisp_spec.specs.declared.head.Head.{Head}
+use Rattle.lisp_spec.specs.declared.head.Head.TheVariants.{QuotesRest, QuotesOne, Templates, Unquotes, Chooses, Lists, Operates, Calls}
+use Rattle.lisp_spec.specs.Heads.{head_of}
 use Rattle.lisp_read.specs.FormLists.{form_elements, single, is_symbol}
 use Rattle.lisp_spec.specs.Parameters.{ToRest}
 use Rattle.lisp_spec.specs.Quoted.{quoted_form, symbol_tree}
-use Rattle.lisp_spec.specs.Curried.{quote_of}
+use Rattle.clvm_spec.specs.Currying.{quote_of}
 use Rattle.lisp_code.specs.Names.{Names, Named, PathTo, NoPath, ExpressionOf, NoName, named, function_names, inline_names}
 use Rattle.lisp_code.specs.Pieces.{operator_code, path_code, failing, pair_code, list_code, if_code, call_code}
 

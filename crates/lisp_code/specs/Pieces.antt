@@ -4,8 +4,8 @@ use Rattle.std.specs.Prelude.{ℕ, zero, suc, List, [], ◌∷◌}
 use Rattle.clvm_spec.specs.declared.op_codes.TheConstants.{APPLY, CHOICE, NEW_PAIR, RAISE}
 use Rattle.clvm_spec.specs.Tree.{Tree, Atom, nil}
 use Rattle.lisp_spec.specs.Parameters.{Side, ToFirst, ToRest}
-pub use Rattle.lisp_spec.specs.Curried.{operator_code}
-use Rattle.lisp_spec.specs.Curried.{quote_of}
+pub use Rattle.clvm_spec.specs.Currying.{operator_code}
+use Rattle.clvm_spec.specs.Currying.{quote_of}
 use Rattle.lisp_code.specs.Paths.{path_atom}
 
 -- what stands at a path of the tree that the code runs on

@@ -8,7 +8,9 @@ use Rattle.lisp_read.specs.Copies.{size as form_size}
 use Rattle.lisp_spec.specs.Forms.{Form, Place}
 use Rattle.lisp_spec.specs.Forms as form
 use Rattle.lisp_read.specs.FormLists.{form_elements, the_only, is_symbol, IsOnly, IsNotOne}
-use Rattle.lisp_spec.specs.Heads.{Head, QuotesRest, QuotesOne, Templates, Unquotes, Chooses, Lists, head_of, operator_head, is_q, is_quote, is_qq, is_unquote, is_if, is_list}
+use Rattle.lisp_spec.specs.declared.head.Head.{Head}
+use Rattle.lisp_spec.specs.declared.head.Head.TheVariants.{QuotesRest, QuotesOne, Templates, Unquotes, Chooses, Lists}
+use Rattle.lisp_spec.specs.Heads.{head_of, operator_head, is_q, is_quote, is_qq, is_unquote, is_if, is_list}
 use Rattle.lisp_code.specs.Names.{Names}
 use Rattle.lisp_code.specs.Pieces.{failing}
 use Rattle.lisp_compile.specs.Parts.{only_of, quasi_of, unquoted_of}

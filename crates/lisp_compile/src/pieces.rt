@@ -3,7 +3,7 @@
 ghost use Rattle.std.specs.Prelude.{◌≡◌, ℕ, ◌+◌, ◌<◌, ◌^◌, [], ◌∷◌, length, IfOk, OnErr};
 ghost use Rattle.clvm_spec.specs.Tree.{Atom, Pair, nil};
 ghost use Rattle.clvm_tree.specs.Nodes.{tree_at, IsKnown, Grows};
-ghost use Rattle.lisp_spec.specs.Curried.{quote_of};
+ghost use Rattle.clvm_spec.specs.Currying.{quote_of};
 ghost use Rattle.lisp_code.specs.Pieces.{operator_code, path_code, failing, pair_code, if_code};
 ghost use Rattle.lisp_compile.specs.Pieces.{Makes};
 

@@ -2,7 +2,7 @@ ghost use Rattle.std.specs.Prelude.{◌≡◌, ◌+◌, ◌*◌, ◌<◌, ◌≤
 ghost use Rattle.clvm_spec.specs.Tree.{Pair, nil};
 ghost use Rattle.clvm_tree.specs.Nodes.{tree_at, IsKnown, AreKnown, Grows};
 ghost use Rattle.clvm_tree.specs.Operators.{trees_at};
-ghost use Rattle.lisp_spec.specs.Curried.{quote_of, curried, quote_hash, form_hash, curried_hash};
+ghost use Rattle.clvm_spec.specs.Currying.{quote_of, curried, quote_hash, form_hash, curried_hash};
 
 use clvm_spec::op_codes::{APPLY, NEW_PAIR, QUOTE};
 use clvm_tree::{Hash, Node, OutOfMemory, Trees, atom_hash, pair_hash};

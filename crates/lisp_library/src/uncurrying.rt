@@ -3,7 +3,7 @@ ghost use Rattle.clvm_spec.specs.Tree.{nil};
 ghost use Rattle.clvm_tree.specs.Nodes.{tree_at, IsKnown};
 ghost use Rattle.clvm_spec.specs.Operators.{is_nil};
 ghost use Rattle.clvm_spec.specs.Evaluation.{is_code};
-ghost use Rattle.lisp_spec.specs.Curried.{uncurried};
+ghost use Rattle.clvm_spec.specs.Currying.{uncurried};
 ghost use Rattle.lisp_library.specs.Parts.{form_parts, HasFormParts};
 ghost use Rattle.lisp_library.specs.Uncurried.{IsUncurried};
 

@@ -1,4 +1,3 @@
-pub mod NameLaws
 pub mod BodySteps
 pub mod ExpansionSteps
 pub mod BodyShifts
@@ -17,8 +16,6 @@ mod IncludedTextRows
 mod TextMeaningRows
 mod BuiltInRows
 mod FaultTextRows
-mod CurriedRows
-pub mod CurriedProofs
 pub mod MeaningProofs
 pub mod ModuleProofs
 pub mod ConstantProofs

@@ -2,7 +2,9 @@
 use Rattle.std.proofs.Common.{◌≡◌, ℕ, zero, suc, Bool, true, false, cond, ◌||◌, List, [], ◌∷◌, Option, Some, None, option_map, is_some, codes, refl, sym, ap, ◌∙◌, subst}
 use Rattle.lisp_spec.specs.Forms.{Form, Atom, Symbol, Pair, Place}
 use Rattle.lisp_read.specs.FormLists.{form_elements, is_symbol, is_empty}
-use Rattle.lisp_spec.specs.Heads.{Head, QuotesRest, QuotesOne, Templates, Unquotes, Chooses, Lists, Operates, Calls as CallsName, head_of}
+use Rattle.lisp_spec.specs.declared.head.Head.{Head}
+use Rattle.lisp_spec.specs.declared.head.Head.TheVariants.{QuotesRest, QuotesOne, Templates, Unquotes, Chooses, Lists, Operates, Calls as CallsName}
+use Rattle.lisp_spec.specs.Heads.{head_of}
 use Rattle.lisp_spec.specs.Macros.{Macro, macro_named}
 use Rattle.lisp_spec.specs.FormParts.{Part, Expression, Operands, Template, OneTemplate}
 use Rattle.lisp_spec.specs.Expansion.{Expanded, Expands, Breaks, if_expanded, call_given, PairKind, Calls, Behind, Kept, call_kind, headed_kind, kind_of, Again, written_at, call_expanded, pair_expanded, with_rest, with_both, expanded_by, again_within, expanded_part}

@@ -4,7 +4,9 @@ use Rattle.std.specs.Prelude.{ℕ, zero, suc, Bool, true, ◌||◌, List, Option
 use Rattle.lisp_spec.specs.Forms.{Form, Atom, Symbol, Pair, Place}
 use Rattle.lisp_read.specs.FormLists.{form_elements, is_symbol, is_empty}
 use Rattle.lisp_spec.specs.FormParts.{Part, Expression, Operands, Template, OneTemplate}
-use Rattle.lisp_spec.specs.Heads.{Head, QuotesRest, QuotesOne, Templates, head_of}
+use Rattle.lisp_spec.specs.declared.head.Head.{Head}
+use Rattle.lisp_spec.specs.declared.head.Head.TheVariants.{QuotesRest, QuotesOne, Templates}
+use Rattle.lisp_spec.specs.Heads.{head_of}
 use Rattle.lisp_spec.specs.Weights.{form_weight, weight_limit}
 use Rattle.lisp_spec.specs.Macros.{Macro, macro_named, MacroFault, TurnsSpent, BadMacro, TooLarge, nesting_limit}
 use Rattle.lisp_spec.specs.MacroBodies.{BodyValue, Gives, Stops, body_value}

@@ -2,8 +2,8 @@
 -- have. Source: Chialisp reference, over the operators of the CLVM reference.
 use Rattle.std.specs.Prelude.{ℕ, Bool, true, false, ◌||◌, List, Option, Some, None, bytes_eq, codes, if◌then◌else◌}
 use Rattle.clvm_spec.specs.OperatorTable.{Operator, operator_named}
-pub use Rattle.lisp_spec.specs.declared.head.Head.{Head}
-pub use Rattle.lisp_spec.specs.declared.head.Head.TheVariants.{QuotesRest, QuotesOne, Templates, Unquotes, Chooses, Lists, Operates, Calls}
+use Rattle.lisp_spec.specs.declared.head.Head.{Head}
+use Rattle.lisp_spec.specs.declared.head.Head.TheVariants.{QuotesRest, QuotesOne, Templates, Unquotes, Chooses, Lists, Operates, Calls}
 
 abbrev pub operator_head : Option Operator → Head
 operator_head None = Calls

@@ -1,10 +1,9 @@
 //! What a symbol is as the head of an expression.
 
-ghost use Rattle.std.specs.Prelude.{◌≡◌, option_map};
-ghost use Rattle.clvm_spec.specs.OperatorTable.{operator_named};
+ghost use Rattle.std.specs.Prelude.{◌≡◌};
 ghost use Rattle.lisp_spec.specs.Heads.{head_of, is_own};
 
-use case_table::code_of;
+use case_table::symbol_code;
 
 /// What a symbol is as the head of an expression.
 #[derive(Clone, Copy, Debug, PartialEq, Eq)]
@@ -27,16 +26,6 @@ pub enum Head {
     Calls,
 }
 
-// The code of an operator's name.
-fn operator_code(name: &[u8]) -> Option<u8>
-    ensures { result ≡ option_map (λ row. row.code) (operator_named name.now) }
-{
-    match std::str::from_utf8(name) {
-        Ok(name) => code_of(name),
-        Err(_) => None,
-    }
-}
-
 impl Head {
     /// What the symbol of this name is.
     #[tactic(auto, unfolding(crate::specs::Heads::head_of))]
@@ -56,7 +45,7 @@ impl Head {
         } else if name == b"list".as_slice() {
             Head::Lists
         } else {
-            match operator_code(name) {
+            match symbol_code(name) {
                 Some(code) => Head::Operates(code),
                 None => Head::Calls,
             }
