@@ -1,9 +1,11 @@
 -- Chains of `(qq (unquote ..))` come to the expression inside.
-use Rattle.std.proofs.Common.{◌≡◌, ℕ, Bool, true, false, cond, List, [], ◌∷◌, Some, None, Option, codes, bytes_eq, ⊎_elim, ◌<◌, refl, sym, ap, ◌∙◌, subst, arith}
+use Rattle.std.proofs.Common.{◌≡◌, ℕ, Bool, true, false, cond, List, [], ◌∷◌, Some, None, Option, codes, bytes_eq, Bor, ⊎_elim, ◌<◌, refl, sym, ap, ◌∙◌, subst, arith}
 use Rattle.std.proofs.lemmas.Bool.{cases_Bool, cond-true, cond-false}
 use Rattle.std.proofs.lemmas.Slice.Eq.{bytes_eq-Decides}
-use Rattle.std.specs.Prelude.{option_and_then}
+use Rattle.std.specs.Prelude.{option_and_then, MatchOption}
 use Rattle.clvm_spec.specs.OperatorTable.{Operator, operator_named}
+use Rattle.lisp_read.specs.declared.form.Form as declared
+use Rattle.lisp_read.specs.Views.{form_of}
 use Rattle.lisp_read.specs.Copies.{size as form_size}
 use Rattle.lisp_spec.specs.Forms.{Form, Place}
 use Rattle.lisp_spec.specs.Forms as form
@@ -13,7 +15,7 @@ use Rattle.lisp_spec.specs.declared.head.Head.TheVariants.{QuotesRest, QuotesOne
 use Rattle.lisp_spec.specs.Heads.{head_of, operator_head, is_q, is_quote, is_qq, is_unquote, is_if, is_list}
 use Rattle.lisp_code.specs.Names.{Names}
 use Rattle.lisp_code.specs.Pieces.{failing}
-use Rattle.lisp_compile.specs.Parts.{only_of, quasi_of, unquoted_of}
+use Rattle.lisp_compile.specs.Parts.{only_of, only_behind, quasi_of, unquoted_of}
 use Rattle.lisp_compile.specs.Jobs.{Coding, template_of}
 use Rattle.lisp_compile.proofs.CodingLaws.{single_is, code_or_fails, template_or_fails, code_templates}
 use Rattle.lisp_compile.proofs.TemplateJobs.{template_unquote_is}
@@ -31,6 +33,11 @@ no_only list none = sym (single_is list) ∙ none_of_elements (form_elements lis
 
 pub the_only_is : (list e : Form) → IsOnly list e → only_of list ≡ Some e
 the_only_is list e only = sym (single_is list) ∙ ap (option_and_then the_only) only.elements
+
+pub one_behind : (name : List ℕ) (f : Form) (at : Place) (first rest : Form) (found : Option (Bor declared.Form)) → f ≡ form.Pair at first rest → is_symbol name first ≡ true →
+    MatchOption found (IsNotOne rest) (λ only. IsOnly rest (form_of only.now)) → MatchOption found (only_behind name f ≡ None) (λ e. only_behind name f ≡ Some (form_of e.now))
+one_behind name f at first rest None is named none = ap (only_behind name) is ∙ ap (λ b. cond b (only_of rest) None) named ∙ no_only rest none
+one_behind name f at first rest (Some e) is named only = ap (only_behind name) is ∙ ap (λ b. cond b (only_of rest) None) named ∙ the_only_is rest (form_of e.now) only
 
 -- ---- chains
 
