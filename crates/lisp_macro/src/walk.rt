@@ -4,7 +4,7 @@ ghost use Rattle.std.specs.Prelude.{◌≡◌, ℕ, List, is_some, Err, IfOk, If
 ghost use Rattle.lisp_read.specs.Views.{form_of};
 ghost use Rattle.lisp_read.specs.Copies.{size};
 ghost use Rattle.lisp_spec.specs.FormParts as parts;
-ghost use Rattle.lisp_spec.specs.FormLists.{form_elements};
+ghost use Rattle.lisp_read.specs.FormLists.{form_elements};
 ghost use Rattle.lisp_spec.specs.Macros.{Macro, macro_named};
 ghost use Rattle.lisp_spec.specs.Expansion.{Expands, call_kind, kind_of, written_at, expanded_part, expansion};
 ghost use Rattle.lisp_macro.specs.Faults.{IsMacroFault};
@@ -13,9 +13,9 @@ ghost use Rattle.lisp_macro.specs.Walks.{part_of, pair_of, IsKind, level_goes, l
 
 use crate::MacroFault;
 use crate::given::call_given;
-use crate::lists::{is_list, is_nil, is_symbol};
 use crate::macros::{Definition, Macros};
 use lisp_read::{Form, FormBox, Parts, Place, Word};
+use lisp_spec::head::Head;
 use std::alloc::Global;
 
 /// As what a form is looked at.
@@ -69,7 +69,7 @@ fn called<'a>(macros: &'a Macros, name: &Word, rest: &Form) -> Kind<'a>
     let Some(definition) = macros.find(name) else {
         return Kind::Behind(Part::Operands);
     };
-    if is_list(rest) {
+    if rest.is_list() {
         Kind::Calls(definition)
     } else {
         Kind::Behind(Part::Operands)
@@ -82,9 +82,9 @@ fn kind_of<'a>(macros: &'a Macros, head: &Form, rest: &Form) -> Kind<'a>
     let Form::Symbol(_, name) = head else {
         return Kind::Behind(Part::Operands);
     };
-    match name.as_slice() {
-        b"q" | b"quote" => Kind::Kept,
-        b"qq" => Kind::Behind(Part::OneTemplate),
+    match Head::of(name.as_slice()) {
+        Head::QuotesRest | Head::QuotesOne => Kind::Kept,
+        Head::Templates => Kind::Behind(Part::OneTemplate),
         _ => called(macros, name, rest),
     }
 }
@@ -131,7 +131,7 @@ fn look_at_operands(levels: &mut Vec<Level>, pair: Pair) -> Result<Next, MacroFa
 fn look_at_template(levels: &mut Vec<Level>, pair: Pair) -> Result<Next, MacroFault>
     ensures { (macros : List Macro) (turns : ℕ) → StepsTo macros levels.old.items levels.new.items turns turns (expanded_part macros parts.Template pair.outer (pair_of pair) turns) (size (pair_of pair)) result }
 {
-    if is_symbol(b"unquote", pair.first.get()) {
+    if pair.first.get().is_symbol(b"unquote") {
         levels.push(Level::Rest(pair.place, pair.first))?;
         return Ok(Next::Looks(Part::Operands, pair.outer, pair.rest.into_inner()));
     }
@@ -143,7 +143,7 @@ fn look_at_template(levels: &mut Vec<Level>, pair: Pair) -> Result<Next, MacroFa
 fn look_at_one_template(levels: &mut Vec<Level>, pair: Pair) -> Result<Next, MacroFault>
     ensures { (macros : List Macro) (turns : ℕ) → StepsTo macros levels.old.items levels.new.items turns turns (expanded_part macros parts.OneTemplate pair.outer (pair_of pair) turns) (size (pair_of pair)) result }
 {
-    if !is_nil(pair.rest.get()) {
+    if !pair.rest.get().is_nil() {
         return Ok(Next::Has(Form::Pair(pair.place, pair.first, pair.rest)));
     }
     levels.push(Level::First(pair.place, Part::OneTemplate, pair.outer, pair.rest))?;
