@@ -5,5 +5,5 @@ pub mod Turns
 pub mod Copies
 pub mod Grammar
 pub mod Faults
-pub mod OpenLists
+pub mod Parsing
 pub mod Laws
