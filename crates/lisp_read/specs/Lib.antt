@@ -3,7 +3,8 @@ pub mod FormCode
 pub mod Views
 pub mod Turns
 pub mod Copies
+pub mod FormLists
 pub mod Grammar
 pub mod Faults
-pub mod OpenLists
+pub mod Parsing
 pub mod Laws

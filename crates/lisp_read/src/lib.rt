@@ -6,9 +6,9 @@ mod fault;
 mod form;
 mod form_list;
 pub mod laws;
-mod lists;
 mod place;
 mod reader;
+mod shapes;
 #[cfg(test)]
 mod tests;
 mod word;
