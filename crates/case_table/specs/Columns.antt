@@ -2,11 +2,11 @@
 use Rattle.std.specs.Prelude.{ℕ, Option, Some, None}
 use Rattle.clvm_spec.specs.declared.operands.Operands.{Operands}
 use Rattle.clvm_spec.specs.declared.operands.Operands.TheVariants.{Any, Pairs, Atoms, Numbers, AtomAndNumbers}
-use Rattle.case_table.specs.declared.operator_table.TheConstants.{ANY, PAIRS, ATOMS, NUMBERS, ATOM_AND_NUMBERS}
+use Rattle.case_table.specs.declared.operator_table.TheConstants.{ANY_COUNT, ANY, PAIRS, ATOMS, NUMBERS, ATOM_AND_NUMBERS}
 
--- the largest count of operands: 255 stands for any count
+-- the largest count of operands, one number standing for any count
 abbrev pub high_code : Option ℕ → ℕ
-high_code None = 255
+high_code None = ANY_COUNT
 high_code (Some most) = most
 
 abbrev pub kind_code : Operands → ℕ

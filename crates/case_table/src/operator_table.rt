@@ -21,6 +21,9 @@ pub const NUMBERS: u8 = 3;
 
 pub const ATOM_AND_NUMBERS: u8 = 4;
 
+/// As the largest count of operands: any count.
+pub const ANY_COUNT: u8 = 255;
+
 /// Hands all rows on to a macro, behind its arguments: code, name, the least and the largest count of operands, the cost
 /// whatever the operands are, their kind, and a name for the arm. `operators` ties each column but the last to the
 /// definitions' table.
@@ -29,41 +32,41 @@ macro_rules! operator_rows {
     ($with:ident $arguments:tt) => {
         $with! {
             $arguments
-            (QUOTE, "q", 0, 255, QUOTE_COST, ANY, quote)
+            (QUOTE, "q", 0, ANY_COUNT, QUOTE_COST, ANY, quote)
             (APPLY, "a", 2, 2, APPLY_COST, ANY, apply)
             (CHOICE, "i", 3, 3, CHOICE_COST, ANY, choice)
             (NEW_PAIR, "c", 2, 2, NEW_PAIR_COST, ANY, new_pair)
             (FIRST, "f", 1, 1, FIRST_COST, PAIRS, first_of)
             (REST, "r", 1, 1, REST_COST, PAIRS, rest_of)
             (PAIR_FLAG, "l", 1, 1, PAIR_FLAG_COST, ANY, pair_flag)
-            (RAISE, "x", 0, 255, RAISE_COST, ANY, raised)
+            (RAISE, "x", 0, ANY_COUNT, RAISE_COST, ANY, raised)
             (EQUAL, "=", 2, 2, EQUAL_COST, ATOMS, equal_flag)
             (BYTES_GREATER, ">s", 2, 2, BYTES_GREATER_COST, ATOMS, bytes_greater_flag)
-            (HASH, "sha256", 0, 255, HASH_COST, ATOMS, hash_of)
+            (HASH, "sha256", 0, ANY_COUNT, HASH_COST, ATOMS, hash_of)
             (PART, "substr", 2, 3, PART_COST, ATOM_AND_NUMBERS, part_of)
             (LENGTH, "strlen", 1, 1, LENGTH_COST, ATOMS, length_of)
-            (CONCAT, "concat", 0, 255, CONCAT_COST, ATOMS, concat_of)
-            (SUM, "+", 0, 255, SUM_COST, NUMBERS, sum_of)
-            (DIFFERENCE, "-", 0, 255, DIFFERENCE_COST, NUMBERS, difference_of)
-            (PRODUCT, "*", 0, 255, PRODUCT_COST, NUMBERS, product_of)
+            (CONCAT, "concat", 0, ANY_COUNT, CONCAT_COST, ATOMS, concat_of)
+            (SUM, "+", 0, ANY_COUNT, SUM_COST, NUMBERS, sum_of)
+            (DIFFERENCE, "-", 0, ANY_COUNT, DIFFERENCE_COST, NUMBERS, difference_of)
+            (PRODUCT, "*", 0, ANY_COUNT, PRODUCT_COST, NUMBERS, product_of)
             (QUOTIENT, "/", 2, 2, QUOTIENT_COST, NUMBERS, quotient_of)
             (DIVISION, "divmod", 2, 2, DIVISION_COST, NUMBERS, quotient_and_remainder)
             (GREATER, ">", 2, 2, GREATER_COST, NUMBERS, greater_flag)
             (SHIFT, "ash", 2, 2, SHIFT_COST, NUMBERS, shift_of_number)
             (BIT_SHIFT, "lsh", 2, 2, BIT_SHIFT_COST, NUMBERS, shift_of_bits)
-            (AND, "logand", 0, 255, AND_COST, NUMBERS, and_of)
-            (OR, "logior", 0, 255, OR_COST, NUMBERS, or_of)
-            (XOR, "logxor", 0, 255, XOR_COST, NUMBERS, xor_of)
+            (AND, "logand", 0, ANY_COUNT, AND_COST, NUMBERS, and_of)
+            (OR, "logior", 0, ANY_COUNT, OR_COST, NUMBERS, or_of)
+            (XOR, "logxor", 0, ANY_COUNT, XOR_COST, NUMBERS, xor_of)
             (COMPLEMENT, "lognot", 1, 1, COMPLEMENT_COST, NUMBERS, complement_of)
             (NIL_FLAG, "not", 1, 1, NIL_FLAG_COST, ANY, nil_flag)
-            (ANY_FLAG, "any", 0, 255, ANY_FLAG_COST, ANY, any_flag)
-            (ALL_FLAG, "all", 0, 255, ALL_FLAG_COST, ANY, all_flag)
+            (ANY_FLAG, "any", 0, ANY_COUNT, ANY_FLAG_COST, ANY, any_flag)
+            (ALL_FLAG, "all", 0, ANY_COUNT, ALL_FLAG_COST, ANY, all_flag)
         }
     };
 }
 
 macro_rules! rows {
-    (() $(($code:ident, $name:literal, $low:literal, $high:literal, $cost:ident, $kind:ident, $arm:ident))*) => {
+    (() $(($code:ident, $name:literal, $low:literal, $high:expr, $cost:ident, $kind:ident, $arm:ident))*) => {
         [$(Row {
             code: op_codes::$code,
             name: $name,
@@ -77,7 +80,7 @@ macro_rules! rows {
 
 static OPERATORS: [Row; 29] = operator_rows!(rows());
 
-/// The operator table. Each column is that of the definitions' table, with 255 for any count and a constant for each kind.
+/// The operator table. Each column is that of the definitions' table, with `ANY_COUNT` for any count and a constant for each kind.
 pub fn operators() -> &'static [Row; 29]
     ensures codes { map (λ row. row.code) result.now ≡ map (λ row. row.code) spec_operators }
     ensures names { map (λ row. row.name.now) result.now ≡ map (λ row. row.name) spec_operators }
@@ -98,7 +101,7 @@ macro_rules! by_operator {
         $crate::operator_rows!(by_operator ($operator, $arm, $otherwise))
     };
     (($operator:expr, $arm:ident, $otherwise:expr)
-        $(($code:ident, $name:literal, $low:literal, $high:literal, $cost:ident, $kind:ident, $function:ident))*) => {
+        $(($code:ident, $name:literal, $low:literal, $high:expr, $cost:ident, $kind:ident, $function:ident))*) => {
         match $operator {
             $($crate::op_codes::$code => $arm!($code, $name, $cost, $function),)*
             _ => $otherwise,
@@ -125,7 +128,7 @@ pub fn code_of(name: &str) -> Option<u8>
     ensures { result ≡ option_map (λ row. row.code) (operator_named name.now) }
 {
     macro_rules! codes {
-        (() $(($code:ident, $name:literal, $low:literal, $high:literal, $cost:ident, $kind:ident, $function:ident))*) => {
+        (() $(($code:ident, $name:literal, $low:literal, $high:expr, $cost:ident, $kind:ident, $function:ident))*) => {
             match name {
                 $($name => Some(op_codes::$code),)*
                 _ => None,

@@ -11,7 +11,7 @@ pub struct Row {
     pub name: &'static str,
     /// How many operands it has at least.
     pub arity_low: u8,
-    /// How many it has at most; 255 stands for any count.
+    /// How many it has at most; `ANY_COUNT` stands for any count.
     pub arity_high: u8,
     /// What it costs, whatever its operands are.
     pub cost: u32,

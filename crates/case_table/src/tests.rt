@@ -1,11 +1,11 @@
-use super::{Row, code_of, find, find_name, name_of, operators, symbol_code};
+use super::{ANY_COUNT, Row, code_of, find, find_name, name_of, operators, symbol_code};
 
 const fn row(code: u8, name: &'static str) -> Row {
     Row {
         code,
         name,
         arity_low: 0,
-        arity_high: 255,
+        arity_high: ANY_COUNT,
         cost: 0,
         kind: 0,
     }
@@ -31,7 +31,7 @@ fn finds_rows(rt: HostRuntime) {
     let few = [row(3, "same"), row(5, "same"), row(9, "other")];
     assert!(rt; find_name(&few, "same") == Some(0));
     assert!(rt; find_name(&few, "other") == Some(2));
-    assert!(rt; rows[24].cost == 100 && rows[24].arity_high == 255);
+    assert!(rt; rows[24].cost == 100 && rows[24].arity_high == ANY_COUNT);
 }
 
 #[test]
