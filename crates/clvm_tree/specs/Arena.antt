@@ -1,4 +1,4 @@
--- The trees that the entries of an arena stand for. This project's own.
+-- The trees that the entries of an arena stand for. Source: this project's own.
 use Rattle.std.specs.Prelude.{ℕ, suc, ◌+◌, ◌^◌, ◌<◌, ◌≤◌, List, [], ◌∷◌, ◌++◌, length, slice_range}
 use Rattle.clvm_spec.specs.Tree.{Tree, Atom, Pair}
 use Rattle.clvm_tree.specs.Nodes.{first_trees, tree_at}

@@ -1,4 +1,4 @@
--- Hashes of the atoms of one byte, by the byte, as far as they are known. This project's own.
+-- Hashes of the atoms of one byte, by the byte, as far as they are known. Source: this project's own.
 use Rattle.std.specs.Prelude.{◌≡◌, ℕ, List, [], ◌∷◌, Option, Some, None, slice_index_or}
 use Rattle.clvm_spec.specs.Hashing.{atom_hash}
 

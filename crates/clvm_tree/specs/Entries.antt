@@ -1,4 +1,4 @@
--- The entry that two words stand for. This project's own.
+-- The entry that two words stand for. Source: this project's own.
 use Rattle.std.specs.Prelude.{ℕ, ◌+◌, ◌-◌, nat_lt, if◌then◌else◌}
 use Rattle.clvm_tree.specs.declared.entry.Entry.{Entry}
 use Rattle.clvm_tree.specs.declared.entry.Entry.TheVariants.{Bytes, Two}

@@ -1,5 +1,5 @@
 -- What is kept for nodes: each has its own place in a slab, and a place that was given to another node since holds
--- nothing for it. This project's own.
+-- nothing for it. Source: this project's own.
 use Rattle.std.specs.Prelude.{◌≡◌, ◌≢◌, ℕ, ◌==◌, List, length, Option, Some, None, slice_index_or, if◌then◌else◌}
 use Rattle.slab.specs.Slab.{get}
 use Rattle.clvm_tree.specs.declared.kept.Slot.{Slot}

@@ -1,5 +1,5 @@
 -- What contracts say of the nodes of a `Trees`, which they see as the list of the trees that its nodes stand for.
--- A node is its place in that list. This project's own.
+-- A node is its place in that list. Source: this project's own.
 use Rattle.std.specs.Prelude.{◌≡◌, ℕ, ◌+◌, ◌<◌, ◌≤◌, List, [], ◌∷◌, ◌++◌, length, map, Option, Some, None, slice_index_or}
 use Rattle.std.specs.List.{range_with_len}
 use Rattle.clvm_spec.specs.Tree.{Tree, Atom, Pair, nil}

@@ -1,4 +1,4 @@
--- The numbers of nodes. This project's own.
+-- The numbers of nodes. Source: this project's own.
 use Rattle.std.specs.Prelude.{ℤ, Option, Some, None, List, ℕ, if◌then◌else◌}
 use Rattle.clvm_spec.specs.Tree.{Tree, Atom, Pair}
 use Rattle.clvm_spec.specs.Numbers.{number, is_short}

@@ -1,5 +1,5 @@
 -- What a table of operators answers on nodes: by the definition of the operators, on the trees that the nodes stand for.
--- This project's own.
+-- Source: this project's own.
 use Rattle.std.specs.Prelude.{◌≡◌, ℕ, ◌+◌, ◌≤◌, List, length, map, None}
 use Rattle.clvm_spec.specs.declared.fuel.Fuel.{Fuel}
 use Rattle.clvm_spec.specs.Tree.{Tree, Atom, Pair}

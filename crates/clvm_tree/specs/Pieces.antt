@@ -1,4 +1,4 @@
--- What the reader's pieces stand for. This project's own.
+-- What the reader's pieces stand for. Source: this project's own.
 use Rattle.clvm_spec.specs.Reading.{Beginning, Begins, Flawed, PairMark}
 use Rattle.clvm_spec.specs.Reading
 use Rattle.clvm_tree.specs.declared.heads.Piece.{Piece}

@@ -1,4 +1,4 @@
--- What the calls that read a tree answer, by what stands at the front of the bytes. This project's own.
+-- What the calls that read a tree answer, by what stands at the front of the bytes. Source: this project's own.
 use Rattle.std.specs.Prelude.{◌≡◌, ℕ, ◌≤◌, List, [], ◌∷◌, length, take, Option, Some, None}
 use Rattle.clvm_spec.specs.Tree.{Tree}
 use Rattle.clvm_spec.specs.Spelling.{Spells}

@@ -1,4 +1,4 @@
--- What `look` shows of a node. This project's own.
+-- What `look` shows of a node. Source: this project's own.
 use Rattle.std.specs.Prelude.{◌≡◌, ℕ, List}
 use Rattle.clvm_spec.specs.Tree.{Tree, Atom}
 use Rattle.clvm_tree.specs.Nodes.{tree_at, HasParts}

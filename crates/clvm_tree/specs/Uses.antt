@@ -1,5 +1,5 @@
 -- Until where nodes are used: each reached node, by place, has the place of the last reached pair of which it is a
--- part, or a later one; 0 is that of a node that isn't reached. This project's own.
+-- part, or a later one; 0 is that of a node that isn't reached. Source: this project's own.
 use Rattle.std.specs.Prelude.{◌≡◌, ◌≢◌, ℕ, ◌+◌, ◌-◌, ◌<◌, ◌≤◌, Some, List, length, slice_index_or}
 use Rattle.clvm_spec.specs.Tree.{Tree, Pair}
 use Rattle.clvm_spec.specs.Hashing.{tree_hash}

@@ -1,4 +1,4 @@
--- What is to be written of nodes. This project's own.
+-- What is to be written of nodes. Source: this project's own.
 use Rattle.std.specs.Prelude.{ℕ, ◌≤◌, length}
 use Rattle.clvm_spec.specs.Tree.{Tree}
 use Rattle.clvm_spec.specs.Spelling.{spelling, HasSpelling}

@@ -1,3 +1,5 @@
+//! The arena of trees: a node is a place, an atom of one byte is a node that is always there, and what is longer is an entry.
+
 ghost use Rattle.std.specs.Prelude.{◌≡◌, ℕ, ◌+◌, ◌-◌, ◌<◌, ◌≤◌, ◌^◌, [], ◌∷◌, length, slice_index_or, IsTrue, ◌↔◌, IfOk, OnErr, MatchOption};
 ghost use Rattle.clvm_spec.specs.Tree.{Atom, Pair, nil};
 ghost use Rattle.clvm_tree.specs.Nodes.{first_trees, tree_at, IsKnown, Grows, Adds, HasParts, IsAtom, IsPair, single_byte};

@@ -1,3 +1,5 @@
+//! The tree hashes of the atoms of one byte.
+
 ghost use Rattle.std.specs.Prelude.{◌≡◌, [], ◌∷◌};
 ghost use Rattle.clvm_spec.specs.Hashing.{atom_hash};
 ghost use Rattle.clvm_tree.specs.ByteHashes.{AreByteHashes};

@@ -1,3 +1,5 @@
+//! A table that lends the atoms of one byte.
+
 ghost use Rattle.std.specs.Prelude.{◌≡◌, [], ◌∷◌};
 
 use std::slice::from_ref;

@@ -1,3 +1,5 @@
+//! An entry of the arena, in eight bytes.
+
 ghost use Rattle.std.specs.Prelude.{◌≡◌, ◌+◌, ◌<◌, ◌^◌};
 
 use crate::Node;

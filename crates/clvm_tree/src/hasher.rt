@@ -1,3 +1,5 @@
+//! Tree hashes: of atoms, pairs and lists, and of a node, of which each pair is hashed once.
+
 ghost use Rattle.std.specs.Prelude.{◌≡◌, ℕ, ◌+◌, ◌<◌, ◌≤◌, ◌^◌, List, ◌-◌, length, slice_index_or, IfOk, OnOk};
 ghost use Rattle.clvm_spec.specs.Tree.{Tree, Atom};
 ghost use Rattle.clvm_spec.specs.Hashing.{atom_hash, list_hash, pair_hash, tree_hash};

@@ -1,3 +1,5 @@
+//! What stands at the front of spelled bytes: the mark of a pair, or an atom.
+
 ghost use Rattle.std.specs.Prelude.{◌≡◌, ◌+◌, ◌*◌, ◌-◌, ◌<◌};
 ghost use Rattle.clvm_spec.specs.Reading.{head_at, leaf, atom_behind, long_atom, prefixed};
 ghost use Rattle.clvm_tree.specs.Pieces.{beginning_of};

@@ -1,3 +1,5 @@
+//! The hashes that are kept while they are needed.
+
 ghost use Rattle.std.specs.Prelude.{◌≡◌, ℕ, ◌<◌, None, Some, length, IfOk, OnOk};
 ghost use Rattle.clvm_tree.specs.Kept.{kept_at, Keeps};
 

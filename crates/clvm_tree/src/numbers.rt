@@ -1,3 +1,5 @@
+//! The numbers of atoms, in two's complement.
+
 ghost use Rattle.std.specs.Prelude.{◌≡◌, ◌+◌, ◌-◌, ◌*◌, ◌<◌, ◌≤◌, ◌^◌, length, IfOk, OnErr};
 ghost use Rattle.clvm_spec.specs.Tree.{Atom};
 ghost use Rattle.clvm_spec.specs.Numbers.{unsigned, complemented, number, shortest_atom};

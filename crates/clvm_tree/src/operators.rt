@@ -1,3 +1,5 @@
+//! What a table of operators is asked, and what it answers.
+
 ghost use Rattle.std.specs.Prelude.{◌≡◌, ◌+◌, ◌<◌, ◌≤◌, ◌^◌, length, IfOk, IfErr, OnErr};
 ghost use Rattle.clvm_tree.specs.Nodes.{tree_at, IsKnown, AreKnown, Grows};
 ghost use Rattle.clvm_tree.specs.Operators.{trees_at, outcome_by, IsAnswer, IsWithin, IsOpFault, KeepsNodes, AnswersAreWithin};

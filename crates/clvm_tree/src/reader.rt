@@ -1,3 +1,5 @@
+//! Reads a tree from its spelling.
+
 ghost use Rattle.std.specs.Prelude.{◌≡◌, ◌≢◌, ◌+◌, ◌<◌, ◌≤◌, ◌^◌, length, None, IfOk, IfErr, OnOk, vec_len};
 ghost use Rattle.clvm_spec.specs.Reading.{tree_of};
 ghost use Rattle.clvm_spec.specs.Spelled.{most_spelled};

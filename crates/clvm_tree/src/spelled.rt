@@ -1,3 +1,5 @@
+//! Whether bytes spell a tree.
+
 ghost use Rattle.std.specs.Prelude.{◌≡◌, IfOk};
 ghost use Rattle.clvm_spec.specs.Spelled.{is_spelled};
 

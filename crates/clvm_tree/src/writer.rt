@@ -1,3 +1,5 @@
+//! Writes the spelling of a tree.
+
 ghost use Rattle.std.specs.Prelude.{◌≡◌, ◌+◌, ◌<◌, ◌≤◌, ◌^◌, ◌++◌, length, IfOk, IfErr, OnOk, vec_len};
 ghost use Rattle.clvm_spec.specs.Spelled.{most_spelled};
 ghost use Rattle.clvm_spec.specs.Spelling.{spelling, atom_spelling, prefix, IsPrefixed, HasSpelling};
