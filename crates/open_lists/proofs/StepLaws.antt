@@ -72,15 +72,16 @@ module _ {F P M Q : Type 0} {unknown : F → Option P} (r : Reading F P M Q unkn
     pub open_leads : (lists new : List (OpenList F P)) (begun : OpenList F P) (place : P) (from rest : List ℕ) → lists ≡ outer ++ list ∷ [] → new ≡ lists ++ begun ∷ [] → begun.place ≡ place → begun.forms.items ≡ [] → begun.reach ≡ Elements → takes_form list.reach ≡ true → length outer + 1 < MOST_OPEN → r.language.place from ≡ r.placed place →
         (0 < length new) × (told r 0 items (Took Opening from rest) ≡ told r 0 new (token_of rest))
     open_leads lists new begun place from rest is_lists is_new is_place is_forms is_reach takes less e =
-        let is_deep : suc (0 + length lists) ≡ suc depth = omega (arith, ap length is_lists, length_push outer list) in
-        (is_open new lists begun is_new,
-        told_last (Took Opening from rest)
-        ∙ ap (resumed r 0 outer) (opens_in r depth list from rest takes)
-        ∙ ap (λ p. resumed r 0 outer (continued r depth list p)) (new_list r depth begun place from rest (omega (arith, less)) is_place is_forms is_reach e)
-        ∙ sym (resumed_push r 0 outer list (read_in r (suc depth) begun (token_of rest)))
-        ∙ ap (λ l. resumed r 0 l (read_in r (suc depth) begun (token_of rest))) (sym is_lists)
-        ∙ ap (λ d. resumed r 0 lists (read_in r d begun (token_of rest))) (sym is_deep)
-        ∙ sym (told_push r 0 lists begun (token_of rest)) ∙ ap (λ l. told r 0 l (token_of rest)) (sym is_new))
+        let is_deep : suc (0 + length lists) ≡ suc depth = omega (arith, ap length is_lists, length_push outer list) in (
+          is_open new lists begun is_new,
+          told_last (Took Opening from rest)
+              ∙ ap (resumed r 0 outer) (opens_in r depth list from rest takes)
+              ∙ ap (λ p. resumed r 0 outer (continued r depth list p)) (new_list r depth begun place from rest (omega (arith, less)) is_place is_forms is_reach e)
+              ∙ sym (resumed_push r 0 outer list (read_in r (suc depth) begun (token_of rest)))
+              ∙ ap (λ l. resumed r 0 l (read_in r (suc depth) begun (token_of rest))) (sym is_lists)
+              ∙ ap (λ d. resumed r 0 lists (read_in r d begun (token_of rest))) (sym is_deep)
+              ∙ sym (told_push r 0 lists begun (token_of rest)) ∙ ap (λ l. told r 0 l (token_of rest)) (sym is_new),
+        )
 
     literal_last : (bytes from rest : List ℕ) → told r 0 items (Took (Literal bytes) from rest) ≡ resumed r 0 items (Parses (r.language.atom (r.language.place from) bytes) rest)
     literal_last bytes from rest =
@@ -96,9 +97,10 @@ module _ {F P M Q : Type 0} {unknown : F → Option P} (r : Reading F P M Q unkn
   -- The first list of all opens.
   pub first_leads : (items new : List (OpenList F P)) (begun : OpenList F P) (place : P) (from rest : List ℕ) → items ≡ [] → new ≡ begun ∷ [] → begun.place ≡ place → begun.forms.items ≡ [] → begun.reach ≡ Elements → r.language.place from ≡ r.placed place →
       (0 < length new) × (told r 0 items (Took Opening from rest) ≡ told r 0 new (token_of rest))
-  first_leads items new begun place from rest is is_new is_place is_forms is_reach e =
-      (omega (arith, ap length is_new),
-      ap (λ l. told r 0 l (Took Opening from rest)) is ∙ new_list r 0 begun place from rest (omega arith) is_place is_forms is_reach e ∙ ap (λ l. told r 0 l (token_of rest)) (sym is_new))
+  first_leads items new begun place from rest is is_new is_place is_forms is_reach e = (
+    omega (arith, ap length is_new),
+    ap (λ l. told r 0 l (Took Opening from rest)) is ∙ new_list r 0 begun place from rest (omega arith) is_place is_forms is_reach e ∙ ap (λ l. told r 0 l (token_of rest)) (sym is_new),
+  )
 
 -- the innermost list, if one is open
 data Split {A : Type 0} (items : List A) : Type 0 where

@@ -5,6 +5,8 @@ mod fault;
 mod form;
 mod list;
 mod lists;
+#[cfg(test)]
+mod tests;
 
 pub use fault::Fault;
 pub use form::TextForm;

@@ -1,8 +1,8 @@
 //! The lists that are open, one in another.
 
-ghost use Rattle.std.specs.Prelude.{◌≡◌, ◌==◌, ℕ, [], ◌∷◌, ◌++◌, length, IfOk, IfErr, None};
+ghost use Rattle.std.specs.Prelude.{◌≡◌, ◌==◌, ◌≤◌, ℕ, [], ◌∷◌, ◌++◌, length, IfOk, IfErr, None};
 ghost use Rattle.clvm_spec.specs.Tokens.{Opening, Closing, Point};
-ghost use Rattle.clvm_spec.specs.Grammar.{Breaks};
+ghost use Rattle.clvm_spec.specs.Grammar.{Breaks, most_open};
 ghost use Rattle.open_lists.specs.Readings.{Reading};
 ghost use Rattle.open_lists.specs.Lists.{resumed};
 ghost use Rattle.open_lists.specs.Faults.{IsFirstFault};
@@ -17,6 +17,7 @@ use std::alloc::Global;
 #[derive(Drop)]
 pub struct OpenLists<F, P> {
     lists: Vec<OpenList<F, P>>,
+    ghost few: { length lists.items ≤ most_open },
 }
 
 // The first fault, where what stands next in a list within others is wrong.
