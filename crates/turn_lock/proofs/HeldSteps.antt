@@ -7,7 +7,7 @@ use lib.ListN.{get_elem?}
 use Rattle.atomic_table.specs.Table.{State, Me, Step, rest, keeps, gives, step, Allows}
 use Rattle.atomic_table.specs.declared.shared.Seat.{Seat}
 use Rattle.turn_lock.specs.declared.rule.View.{View}
-use Rattle.turn_lock.specs.Makers.{Maker, nobody, entering, named, last_enters, IsNamedBefore}
+use Rattle.turn_lock.specs.Makers.{Maker, nobody, entering, named, last_enters, NamesAreEarlier}
 use Rattle.turn_lock.specs.Rule.{HaveNamesApart, Fits, IsHome, IsOut, HasMade}
 use Rattle.turn_lock.specs.Steps.{with_entry, without_turn, place_with, Publishes, Releases}
 use Rattle.turn_lock.specs.Hands.{MayMake, Follows, Token, IsInHand}
@@ -17,6 +17,7 @@ use Rattle.turn_lock.proofs.Seats.{one_at, each_set, IsAlone, alone_still, apart
 use Rattle.turn_lock.proofs.Views.{fits-other, fits-entry, with_entry-seen, with_entry-holding, with_entry-opening, with_entry-told, with_entry-name, with_entry-old_name}
 use Rattle.turn_lock.proofs.IdleSteps.{Rule, Goes, known, out_after}
 
+-- the value in the place
 value_in : {S : Type 0} → Option S → List (ℕ × Option S) → Option S
 value_in x [] = x
 value_in x (y ∷ ys) = y.1
@@ -34,7 +35,7 @@ module _ {S O E : Type 0} (opening : S → O) (history : S → List E) (maker : 
     others : (j : ℕ) (u : View O E) → j ≢ id → get_elem? s.views j ≡ maybe.some u → u.holding ≡ false
     fits : (j : ℕ) (u : View O E) → get_elem? s.views j ≡ maybe.some u → Fits maker v.seen start u
     apart : HaveNamesApart s.views
-    named : IsNamedBefore maker v.seen
+    named : NamesAreEarlier maker v.seen
 
   mine : (s : State (Option S) (View O E)) (id : ℕ) (v : View O E) → Rule opening history maker s → get_elem? s.views id ≡ maybe.some v → v.holding ≡ true → Held s id v
   mine s id v k at holding =
@@ -54,7 +55,7 @@ module _ {S O E : Type 0} (opening : S → O) (history : S → List E) (maker : 
             others = λ j u ne there. h.others j u (λ is. ne (is ∙ sym same)) there;
             fits = subst (λ l. (j : ℕ) (u : View O E) → get_elem? s.views j ≡ maybe.some u → Fits maker l k.start u) list k.fits;
             apart = k.apart;
-            named = subst (IsNamedBefore maker) list k.named;
+            named = subst (NamesAreEarlier maker) list k.named;
           }
 
   -- the pass with one entry more has no other's name
@@ -212,6 +213,7 @@ module _ {S O E : Type 0} (opening : S → O) (history : S → List E) (maker : 
         told = sym (ap (λ t. t.view.told) is) ∙ hand.told;
       }
 
+  -- what the pass has and is once it has published
   came : (v : View O E) (value : S) (m after : Me (Option S) (View O E)) (st : Step (Option S)) (found : ℕ) → Gives v value m → Publishes history maker st m found after
       → (after.1 ≡ place_with (Some value)) × Comes v after.0 (history value) found
   came v value m after st found g p =
@@ -225,6 +227,7 @@ module _ {S O E : Type 0} (opening : S → O) (history : S → List E) (maker : 
       subst (λ c. Allows (Rule opening history maker) slots id (after.0, c) 0 (λ _. 0) (λ _. Releases (step slots 0 0 0 maybe.none) (after.0, c) 0)) (sym now.0)
       (release-held slots id after.0 value (now.1.holding ∙ g.holding) (sym now.1.seen) (now.1.opens ∙ g.opens))
 
+  -- The pass is whole again, once the place has gone home.
   in_hand : (v : View O E) (value : S) (m after : Me (Option S) (View O E)) (st : Step (Option S)) (found : ℕ) → Gives v value m → Publishes history maker st m found after
       → (name : Option ℕ) (seat : Seat (Option S) (View O E)) → seat.me ≡ (without_turn after.0, []) → name ≡ after.0.name → IsInHand name seat
   in_hand v value m after st found g p name seat is same =

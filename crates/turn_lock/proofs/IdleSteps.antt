@@ -6,7 +6,7 @@ use prog.Atomic.{either}
 use Rattle.atomic_table.specs.Table.{State, Me, Act, keeps, takes, step, stepped, Valid, carried_after, Allows}
 use Rattle.atomic_table.proofs.Lists.{set_else}
 use Rattle.turn_lock.specs.declared.rule.View.{View}
-use Rattle.turn_lock.specs.Makers.{Maker, IsNamedBefore}
+use Rattle.turn_lock.specs.Makers.{Maker, NamesAreEarlier}
 use Rattle.turn_lock.specs.Rule.{HaveNamesApart, Fits, IsHome, IsOut, Kept}
 use Rattle.turn_lock.specs.Steps.{with_refusal, with_turn, with_sight, told_nothing, Takes, Looks, Compares}
 use Rattle.turn_lock.proofs.Views.{fits-all, fits-told_nothing}
@@ -109,7 +109,7 @@ module _ {S O E : Type 0} (opening : S → O) (history : S → List E) (maker : 
   -- the rule once a seat has the place, and has seen this list
   pub out_after : (s : State (Option S) (View O E)) (id : ℕ) (v w : View O E) (list : List E) (start : O) → get_elem? s.views id ≡ maybe.some v
       → ((j : ℕ) (u : View O E) → j ≢ id → get_elem? s.views j ≡ maybe.some u → u.holding ≡ false) → HaveNamesApart s.views → w.holding ≡ true → w.seen ≡ list
-      → Fits maker list start w → ((j : ℕ) (u : View O E) → j ≢ id → get_elem? s.views j ≡ maybe.some u → Fits maker list start u) → IsAlone s.views id w → IsNamedBefore maker list
+      → Fits maker list start w → ((j : ℕ) (u : View O E) → j ≢ id → get_elem? s.views j ≡ maybe.some u → Fits maker list start u) → IsAlone s.views id w → NamesAreEarlier maker list
       → Rule (record { words = 1 ∷ length list ∷ []; homes = maybe.none ∷ []; views = set s.views id w })
   out_after s id v w list start at idle apart holding seen new others alone before =
       record {
@@ -145,7 +145,7 @@ module _ {S O E : Type 0} (opening : S → O) (history : S → List E) (maker : 
             (record { seen = g.seen; told = g.told; opening = g.opening; name = g.name; made = g.made })
             (λ j u _ there. fits j u there)
             (alone_still s.views id m.0 w k.apart at (λ n is. is))
-            (subst (IsNamedBefore maker) (sym h.list_is) k.named),
+            (subst (NamesAreEarlier maker) (sym h.list_is) k.named),
         (
           (λ _. record { value = h.value; place = refl; view = refl; begins = f.seen; opens = λ o is. h.opening_is ∙ sym (f.opening o is); made = f.made }),
           (λ no. absurd (no refl)),

@@ -2,7 +2,7 @@
 use Rattle.std.proofs.Common.{◌≡◌, ◌≢◌, ◌⊎◌, ℕ, zero, suc, ◌-◌, ◌<◌, ◌≤◌, Bool, true, false, cond, List, [], ◌∷◌, ◌++◌, length, slice_get, Some, refl, sym, ap, ◌∙◌, append-nil, inl, inr, ⊎_elim, eq-eqb, ne_eqb, length-append, arith}
 use Rattle.std.proofs.lemmas.List.Elements.{filter-append}
 use Rattle.std.proofs.lemmas.Option.{slice_get_within}
-use Rattle.turn_lock.specs.Makers.{Maker, nobody, entering, named, is_entering, is_named, enters, last_enters, made_by, IsUnnamed, IsNamedBefore}
+use Rattle.turn_lock.specs.Makers.{Maker, nobody, entering, named, is_entering, is_named, enters, last_enters, made_by, IsUnnamed, NamesAreEarlier}
 
 pub is_named_so : (n : ℕ) → is_named n (named n) ≡ true
 is_named_so n = eq-eqb n n refl
@@ -41,10 +41,10 @@ module _ {E : Type 0} (maker : E → Maker) where
   unmade n [] none = refl
   unmade n (e ∷ list) none = rw (is_named_otherwise n (maker e) (none 0 e refl)) (unmade n list (λ k f is. none (suc k) f is))
 
-  pub unmade-new : (n : ℕ) (list : List E) → IsNamedBefore maker list → length list ≤ n → made_by maker n list ≡ []
+  pub unmade-new : (n : ℕ) (list : List E) → NamesAreEarlier maker list → length list ≤ n → made_by maker n list ≡ []
   unmade-new n list before le = unmade n list (λ k e at is. let h = before k n e at is in let w = slice_get_within list k e at in absurd (omega arith))
 
-  pub named_before-longer : (list : List E) (e : E) → IsNamedBefore maker list → ((n : ℕ) → maker e ≡ named n → n < length list) → IsNamedBefore maker (list ++ e ∷ [])
+  pub named_before-longer : (list : List E) (e : E) → NamesAreEarlier maker list → ((n : ℕ) → maker e ≡ named n → n < length list) → NamesAreEarlier maker (list ++ e ∷ [])
   named_before-longer list e before new k n f at is =
       ⊎_elim
       (λ (h : slice_get list k ≡ Some f). before k n f h is)
@@ -64,5 +64,5 @@ module _ {E : Type 0} (maker : E → Maker) where
   made_there (x ∷ list) (suc k) n e at is none = made_there list k n e at is (nothing_behind (is_named n (maker x)) x (made_by maker n list) none)
 
   -- where nothing is made under a name, no entry has one
-  pub unnamed_before : (list : List E) → IsUnnamed maker list → IsNamedBefore maker list
+  pub unnamed_before : (list : List E) → IsUnnamed maker list → NamesAreEarlier maker list
   unnamed_before list none k n e at is = absurd (made_there list k n e at is (none n))

@@ -3,7 +3,7 @@ use Rattle.std.proofs.Common.{◌≡◌, ◌≢◌, ◌<◌, ℕ, Bool, true, fa
 use Rattle.std.proofs.lemmas.Option.{cond_some}
 use mathlib.Core.List.{IsPrefix, prefix-append}
 use Rattle.turn_lock.specs.declared.rule.View.{View}
-use Rattle.turn_lock.specs.Makers.{Maker, nobody, entering, named, is_entering, IsUnnamed, IsNamedBefore}
+use Rattle.turn_lock.specs.Makers.{Maker, nobody, entering, named, is_entering, IsUnnamed, NamesAreEarlier}
 use Rattle.turn_lock.specs.Rule.{newcomer, stranger, first_name, founder, Fits}
 use Rattle.turn_lock.specs.Steps.{with_sight, with_sight_of, told_nothing, with_entry}
 use Rattle.turn_lock.specs.Hands.{MayMake}
@@ -93,7 +93,7 @@ module _ {O E : Type 0} (maker : E → Maker) (o : O) where
   told_further : (e : E) (v : View O E) → Fits maker v.seen o v → IsPrefix v.told (v.seen ++ e ∷ [])
   told_further e v f = prefix_trans v.told v.seen (v.seen ++ e ∷ []) f.told (prefix-append v.seen (e ∷ []))
 
-  pub fits-entry : (m : Maker) (e : E) (v : View O E) → maker e ≡ m → MayMake v m → IsNamedBefore maker v.seen → Fits maker v.seen o v → Fits maker (v.seen ++ e ∷ []) o (with_entry m e v)
+  pub fits-entry : (m : Maker) (e : E) (v : View O E) → maker e ≡ m → MayMake v m → NamesAreEarlier maker v.seen → Fits maker v.seen o v → Fits maker (v.seen ++ e ∷ []) o (with_entry m e v)
   fits-entry nobody e v is may before f =
       record {
         seen = prefix_self (v.seen ++ e ∷ []);

@@ -7,11 +7,13 @@ pub data Maker : Type 0 where
   entering : Maker
   named : ℕ → Maker
 
+-- whether somebody enters by the entry
 abbrev pub is_entering : Maker → Bool
 is_entering nobody = false
 is_entering entering = true
 is_entering (named n) = false
 
+-- whether the entry is made under this name
 abbrev pub is_named : ℕ → Maker → Bool
 is_named n nobody = false
 is_named n entering = false
@@ -22,6 +24,7 @@ module _ {E : Type 0} (maker : E → Maker) where
   abbrev pub made_by : ℕ → List E → List E
   made_by n list = filter (λ e. is_named n (maker e)) list
 
+  -- whether there is an entry, by which somebody enters
   abbrev pub enters : Option E → Bool
   enters None = false
   enters (Some e) = is_entering (maker e)
@@ -33,6 +36,6 @@ module _ {E : Type 0} (maker : E → Maker) where
   abbrev pub IsUnnamed : List E → Type 0
   IsUnnamed list = (n : ℕ) → made_by n list ≡ []
 
-  -- An entry that is made under a name stands behind the place that is the name.
-  abbrev pub IsNamedBefore : List E → Type 0
-  IsNamedBefore list = (k n : ℕ) (e : E) → slice_get list k ≡ Some e → maker e ≡ named n → n < k
+  -- An entry that is made under a name stands behind the place that is this name.
+  abbrev pub NamesAreEarlier : List E → Type 0
+  NamesAreEarlier list = (k n : ℕ) (e : E) → slice_get list k ≡ Some e → maker e ≡ named n → n < k

@@ -6,7 +6,7 @@ use mathlib.Core.List.{IsPrefix}
 use lib.ListN.{get_elem?}
 use Rattle.atomic_table.specs.Table.{State}
 use Rattle.turn_lock.specs.declared.rule.View.{View}
-use Rattle.turn_lock.specs.Makers.{Maker, made_by, is_entering, IsNamedBefore}
+use Rattle.turn_lock.specs.Makers.{Maker, made_by, is_entering, NamesAreEarlier}
 
 module _ {O E : Type 0} where
   -- an idle view without a name, which has seen this list
@@ -17,7 +17,6 @@ module _ {O E : Type 0} where
   abbrev pub stranger : View O E
   stranger = newcomer None []
 
-module _ {O E : Type 0} where
   -- No two views have one name.
   abbrev pub HaveNamesApart : List (View O E) → Type 0
   HaveNamesApart views =
@@ -46,7 +45,7 @@ module _ {O E : Type 0} (maker : E → Maker) where
     pub seen : IsPrefix v.seen list
     -- of two lists that are joined, the shorter begins the longer
     pub told : IsPrefix v.told v.seen
-    -- the pass knows the opening
+    -- the opening that the pass knows is that
     pub opening : (x : O) → v.opening ≡ Some x → x ≡ o
     -- its name is the place of an entry
     pub name : (n : ℕ) → v.name ≡ Some n → n < length list
@@ -59,34 +58,42 @@ module _ {S O E : Type 0} (opening : S → O) (history : S → List E) (maker : 
     pub value : S
     -- `held` is 0, and `count` the length of the list
     pub words : s.words ≡ 0 ∷ length list ∷ []
+    -- a place at home has a value
     pub home : s.homes ≡ maybe.some (Some value) ∷ []
     -- the list is the value's history
     pub list_is : history value ≡ list
     -- the value has the opening with which the turn was started
     pub opening_is : opening value ≡ o
+    -- no pass is holding
     pub idle : (j : ℕ) (v : View O E) → get_elem? s.views j ≡ maybe.some v → v.holding ≡ false
 
-  -- One pass holds the turn: its seat has the place, and its view alone is holding.
+  -- One pass holds the turn: its seat has the place.
   pub record IsOut (s : State (Option S) (View O E)) (list : List E) : Type 0 where
     pub seat : ℕ
     pub view : View O E
     -- `held` is 1, and `count` the length of the list
     pub words : s.words ≡ 1 ∷ length list ∷ []
+    -- the place is out
     pub home : s.homes ≡ maybe.none ∷ []
     pub at : get_elem? s.views seat ≡ maybe.some view
     pub holding : view.holding ≡ true
     -- the list is what the holding pass has seen
     pub list_is : view.seen ≡ list
+    -- no other pass is holding
     pub others : (j : ℕ) (v : View O E) → j ≢ seat → get_elem? s.views j ≡ maybe.some v → v.holding ≡ false
 
+  -- The rule: the place is at home, or out with the one pass that holds the turn, and each view fits to the place's list,
+  -- which is the history of the value at home, or what the holding pass has seen.
   pub record Kept (s : State (Option S) (View O E)) : Type 0 where
     -- the place's list
     pub list : List E
     -- the opening with which the turn was started
     pub start : O
+    -- the turn is held exactly where a seat has the place, and the count is the length of the list
     pub place : IsHome s list start ⊎ IsOut s list
+    -- what each pass has seen begins the list, and each knows the opening, its name and what it published
     pub fits : (j : ℕ) (v : View O E) → get_elem? s.views j ≡ maybe.some v → Fits maker list start v
     -- names of different passes differ
     pub apart : HaveNamesApart s.views
-    -- an entry under a name stands behind the entry by which its pass entered
-    pub named : IsNamedBefore maker list
+    -- the name of an entry's maker is an earlier place
+    pub named : NamesAreEarlier maker list

@@ -73,6 +73,7 @@ module _ {S O E : Type 0} (opening : S → O) (history : S → List E) (maker : 
   abbrev pub IsRefused : ℕ → Me (Option S) (View O E) → Me (Option S) (View O E) → Type 0
   IsRefused found m after = (found ≡ 1) × (after ≡ (with_refusal m.0, m.1))
 
+  -- The turn was free and is taken, with the value; or it was held, and the take is refused.
   abbrev pub Takes : Step (Option S) → Me (Option S) (View O E) → ℕ → Me (Option S) (View O E) → Type 0
   Takes st m found after = (found ≡ 0 → Gets m after) × (found ≢ 0 → IsRefused found m after)
 

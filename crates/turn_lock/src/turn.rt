@@ -18,7 +18,7 @@ use std::snapshot::Snapshot;
 use std::sync::Wait;
 use std::thread::yield_now;
 
-/// The word that says whether a pass holds the turn.
+/// The word that is 1 while a pass holds the turn, and else 0.
 const HELD: usize = 0;
 
 /// The word with the length of the published history.
@@ -65,8 +65,8 @@ impl<S: Replays> Turn<S> {
     /// history is one entering entry, the pass has entered by it.
     pub fn start(alloc: Global, value: S) -> Result<(Turn<S>, Pass<S>), TurnFault<S>>
         requires { IsUnnamed S.maker (S.history value) }
-        ensures pass { IfOk result (λ started. IsPassOf started.0 started.1) }
-        ensures view { IfOk result (λ started. started.1.view ≡ founder S.maker (S.opening value) (S.history value)) }
+        ensures pass { IfOk result (λ t. IsPassOf t.0 t.1) }
+        ensures view { IfOk result (λ t. t.1.view ≡ founder S.maker (S.opening value) (S.history value)) }
         ensures err { IfErr result (λ fault. fault ≡ OutOfMemory value) }
     {
         let first = Snapshot::of(&value);
@@ -88,8 +88,8 @@ impl<S: Replays> Turn<S> {
         }
     }
 
-    /// Takes the value, and waits for as long as another pass holds it. Its history begins with all that the pass has
-    /// seen.
+    /// Takes the value, and waits for as long as another pass holds it, which may be forever. The value's history begins
+    /// with all that the pass has seen.
     pub fn take<R: Wait>(&self, rt: &R, pass: &mut Pass<S>) -> S
         requires { IsIdle self.now pass.old }
         ensures turn { pass.new.turn ≡ pass.old.turn }
