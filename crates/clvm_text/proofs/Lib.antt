@@ -1,5 +1,4 @@
 pub mod PrintLaws
 pub mod FrameLaws
 pub mod StepLaws
-pub mod NameLaws
 pub mod ScanningLaws

@@ -1,11 +1,10 @@
 //! How a text is read, token by token, with the lists that are open.
 
-ghost use Rattle.std.specs.Prelude.{◌≡◌, ℕ, ◌+◌, ◌<◌, ◌≤◌, ◌^◌, List, length, drop, Some, None, option_map, MatchOption, IfOk, IfErr, OnOk, OnErr};
+ghost use Rattle.std.specs.Prelude.{◌≡◌, ℕ, ◌+◌, ◌<◌, ◌≤◌, ◌^◌, List, length, drop, Some, None, MatchOption, IfOk, IfErr, OnOk, OnErr};
 ghost use Rattle.clvm_spec.specs.Tree.{Tree, Atom};
 ghost use Rattle.clvm_spec.specs.Tokens as tokens;
 ghost use Rattle.clvm_spec.specs.Grammar.{Breaks};
 ghost use Rattle.clvm_spec.specs.Text.{paired};
-ghost use Rattle.clvm_spec.specs.OperatorTable.{operator_named};
 ghost use Rattle.clvm_tree.specs.Nodes.{Grows, Adds};
 ghost use Rattle.text_tokens.specs.Meanings.{literal_bytes, meant};
 ghost use Rattle.clvm_text.specs.Forms.{formed, IsKnownForm, IsFormWithin, Makes};
@@ -13,7 +12,7 @@ ghost use Rattle.clvm_text.specs.Leaves.{token_of_leaf, leaf_form};
 ghost use Rattle.clvm_text.specs.Frames.{resumed, AreBegun, IsMode, AreWithin, IsModeWithin, waiting, IsFirstFault, Tells, Keeps, IsToldUnread, depth_in, list_frame, IsRefused, HasLastAt, Ends, Settles, Places, Takes, Stops};
 
 use crate::TextFault;
-use case_table::code_of;
+use case_table::symbol_code;
 use clvm_spec::limits::MOST_OPEN;
 use clvm_tree::{Node, OutOfMemory, Trees};
 use std::alloc::Global;
@@ -94,16 +93,6 @@ pub(crate) fn fault(frames: &[Frame], mode: Mode, kind: ScanKind, place: u32) ->
     match mode {
         Mode::Close(_, dot) => fault_behind(frames, ScanKind::Dot, dot),
         _ => fault_behind(frames, kind, place),
-    }
-}
-
-// The code of an operator's name.
-fn symbol_code(name: &[u8]) -> Option<u8>
-    ensures { result ≡ option_map (λ row. row.code) (operator_named name.now) }
-{
-    match std::str::from_utf8(name) {
-        Ok(name) => code_of(name),
-        Err(_) => None,
     }
 }
 

@@ -1,5 +1,0 @@
-use Rattle.clvm_text.proofs.NameLaws.{no_name}
-use Rattle.clvm_text.proofs.frames.symbol_code.Goals as goal
-
-pub returns-in-Err : goal.returns-in-Err
-returns-in-Err c = no_name c.args.name.now c.in-Err.ensures.cases.0
