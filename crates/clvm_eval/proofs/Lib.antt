@@ -1,4 +1,4 @@
 pub mod PathLaws
-pub mod WorkLaws
+pub mod EvaluationLaws
 pub mod StateLaws
 pub mod FormLaws

@@ -1,4 +1,4 @@
 pub mod Runs
-pub mod PendingWork
+pub mod OpenForms
 pub mod Steps
 pub mod Paths

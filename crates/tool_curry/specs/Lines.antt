@@ -1,4 +1,4 @@
--- What `curry` writes. This project's own.
+-- What `curry` writes. Source: this project's own.
 use Rattle.std.specs.Prelude.{ℕ, List, ◌++◌}
 use Rattle.clvm_spec.specs.Tree.{Tree}
 use Rattle.clvm_spec.specs.Lines.{line_feed}
