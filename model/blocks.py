@@ -60,7 +60,8 @@ def signed_of(tree):
     return operand_of('key', tree[0]), tree[1]
 
 
-# Rule 40: the bytes are a block's spelling; else the place is that of the spelling's fault, their number where they are cut, or 0.
+# Rule 40: the bytes are a block's spelling; else the place is that of the spelling's fault, their number where they are
+# cut, or 0.
 def block_of(spelled):
     try:
         tree = read_whole(spelled)

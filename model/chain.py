@@ -26,8 +26,8 @@ class Chain:
         self.peak = Peak(0, genesis, seconds)
         self.before = []
 
-    # A block's coins are created with its height and seconds, its spent ones are marked, and a reward coin comes on top, unless the
-    # reward is nothing or its id is there already.
+    # A block's coins are created with its height and seconds, its spent ones are marked, and a reward coin comes on
+    # top, unless the reward is nothing or its id is there already.
     def connect(self, block, block_hash, spent, created):
         self.before.append((dict(self.records), self.peak))
         self.peak = Peak(block.height, block_hash, block.seconds)

@@ -28,8 +28,8 @@ def is_hash(tree):
     return is_atom(tree) and len(tree) == 32
 
 
-# The puzzle is curried with two arguments (1); its program is the singleton's (2); the first argument is `(M . (L . Q))` with the
-# singleton's hash and two hashes (3).
+# The puzzle is curried with two arguments (1); its program is the singleton's (2); the first argument is `(M . (L .
+# Q))` with the singleton's hash and two hashes (3).
 def inner_puzzle(puzzle, singleton):
     """The second argument, in a tuple, or None."""
     parts = uncurried(puzzle)
@@ -43,8 +43,8 @@ def inner_puzzle(puzzle, singleton):
     return (inner,)
 
 
-# The solution isn't too long and is a list of three: the proof, which is a list of two hashes and an amount, the coin's amount, and
-# anything (4).
+# The solution isn't too long and is a list of three: the proof, which is a list of two hashes and an amount, the coin's
+# amount, and anything (4).
 def proof_of(spend):
     """Parent's parent, inner hash, and parent's amount as atom and number; or None."""
     parts = elements(spend.solution, 3) if spelled_size(spend.solution) <= MOST_SOLUTION else None
@@ -60,9 +60,9 @@ def proof_of(spend):
     return (*proof, amount)
 
 
-# The proof names the inner puzzle's hash (5); the coin's and its parent's amounts are odd (6); the coin's parent is the coin that the
-# proof tells (7); the run is done and its conditions are good, exactly one created coin has an odd amount, and that one is as the
-# coin (8); and no condition binds it to this one coin (9).
+# The proof names the inner puzzle's hash (5); the coin's and its parent's amounts are odd (6); the coin's parent is the
+# coin that the proof tells (7); the run is done and its conditions are good, exactly one created coin has an odd
+# amount, and that one is as the coin (8); and no condition binds it to this one coin (9).
 def has_shape(spend, limit, singleton):
     inner, proof = inner_puzzle(spend.puzzle, singleton), proof_of(spend)
     if inner is None or proof is None or proof[1] != tree_hash(inner[0]):
@@ -77,8 +77,9 @@ def has_shape(spend, limit, singleton):
     return odd == [(coin.puzzle_hash, coin.amount)] and not any(it.code in HELD_BACK for it in conditions)
 
 
-# A spend has the shape only where no other of the bundle has its puzzle hash (10). Where all have it, none is forward; a spend that
-# isn't forward is the same where its run asks for no signature, else plain, which it also is where its run gives no conditions.
+# A spend has the shape only where no other of the bundle has its puzzle hash (10). Where all have it, none is forward;
+# a spend that isn't forward is the same where its run asks for no signature, else plain, which it also is where its run
+# gives no conditions.
 def classes_of(bundle, limit, singleton):
     hashes = [it.coin.puzzle_hash for it in bundle.spends]
     shaped = [hashes.count(it.coin.puzzle_hash) == 1 and has_shape(it, limit, singleton) for it in bundle.spends]
@@ -105,11 +106,12 @@ def is_unspent(chain, taken, id):
     return id not in taken.spent and (id in taken.created or record is not None and record.spent is None)
 
 
-# The one unspent coin of a puzzle hash and amount after chain and taken spends, with its parent; none where there is no such coin (1)
-# or several (2), where its parent is nowhere (3), or has another puzzle hash (4).
+# The one unspent coin of a puzzle hash and amount after chain and taken spends, with its parent; none where there is no
+# such coin (1) or several (2), where its parent is nowhere (3), or has another puzzle hash (4).
 def lineage_of(chain, taken, puzzle_hash, amount):
     found = {it.coin.id: it.coin for it in chain.records.values() if it.spent is None} | taken.created
-    found = [it for id, it in found.items() if (it.puzzle_hash, it.amount) == (puzzle_hash, amount) and is_unspent(chain, taken, id)]
+    found = [it for id, it in found.items()
+             if (it.puzzle_hash, it.amount) == (puzzle_hash, amount) and is_unspent(chain, taken, id)]
     if len(found) != 1:
         return None
     record = chain.records.get(found[0].parent)

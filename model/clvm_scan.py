@@ -4,8 +4,9 @@ from modules import OPERATOR_CODES, quoted_tree
 from tokens import ReadFault, skip, token_at
 
 
-# The text has exactly one form; an operator's name is its code, and another symbol is wrong. Of all faults the one with the smallest
-# place is told: without a form it is `end` at the text's length, and a token behind the form is `left` there.
+# The text has exactly one form; an operator's name is its code, and another symbol is wrong. Of all faults the one with
+# the smallest place is told: without a form it is `end` at the text's length, and a token behind the form is `left`
+# there.
 def scanned(text):
     fault, depth, is_done, place = None, 0, False, 0
     try:

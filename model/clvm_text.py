@@ -3,8 +3,8 @@ from operators import NAME_OF
 from trees import NIL, is_atom, number, shortest
 
 
-# Nil is `()`. An atom of one or two bytes that is its number's shortest form is that number in decimal. Every other one is `0x` and
-# its bytes. At the front of a list the code of an operator is its name.
+# Nil is `()`. An atom of one or two bytes that is its number's shortest form is that number in decimal. Every other one
+# is `0x` and its bytes. At the front of a list the code of an operator is its name.
 def atom_text(atom, leads):
     if leads and atom in NAME_OF:
         return NAME_OF[atom]

@@ -48,7 +48,8 @@ def alike(one, other):
     return same(one, other)
 
 
-# A code agrees with its module where on each environment it has the same value, is wide, or has none, as the source does.
+# A code agrees with its module where on each environment it has the same value, is wide, or has none, as the source
+# does.
 def disagreement(found, code, environments):
     """None, or why this code isn't right."""
     if spelled_size(code) > found.bound:

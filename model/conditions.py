@@ -69,8 +69,8 @@ def shortest_number(atom):
     return number(atom)
 
 
-# A hash has 32 bytes, a key 48, a text at most 1,024; an amount is a shortest number of 64 bits without sign, a moment one of at most
-# 16 bytes, a mode one of 0 to 63.
+# A hash has 32 bytes, a key 48, a text at most 1,024; an amount is a shortest number of 64 bits without sign, a moment
+# one of at most 16 bytes, a mode one of 0 to 63.
 def operand_of(kind, tree):
     if not is_atom(tree):
         raise Malformed
@@ -94,8 +94,8 @@ def part_kinds(bits):
     return [name for bit, name in ((4, 'parent'), (2, 'puzzle_hash'), (1, 'amount')) if bits & bit]
 
 
-# The high bits of a mode are the sender's, the low ones the receiver's; what is sent names the receiver's parts, and what is received
-# the sender's.
+# The high bits of a mode are the sender's, the low ones the receiver's; what is sent names the receiver's parts, and
+# what is received the sender's.
 def other_side(code, mode):
     return part_kinds(mode & 7 if code == 66 else mode >> 3)
 

@@ -17,8 +17,8 @@ class Failed(Exception):
         self.why, self.form, self.raised = why, form, raised
 
 
-# An atom is a path: nil where no bit is set, else the bits below its highest one say from the lowest up whether to take the
-# first (0) or the rest (1) of the environment. It costs 44, 4 for each leading zero byte and 4 for each step.
+# An atom is a path: nil where no bit is set, else the bits below its highest one say from the lowest up whether to take
+# the first (0) or the rest (1) of the environment. It costs 44, 4 for each leading zero byte and 4 for each step.
 def follow(path, tree):
     zeros = len(path) - len(path.lstrip(b'\0'))
     cost = 44 + 4 * zeros
@@ -32,9 +32,10 @@ def follow(path, tree):
     return tree, cost + 4 * steps
 
 
-# A form with a pair as head fails; `(q . X)` is X at a cost of 20; every other form needs a proper list of operands, costs 1, and
-# evaluates its operands one level deeper, the last one first. `a` then costs 90 and goes on with its first value as program and its
-# second as environment, at the form's own depth; another head is an operator. A failure of a step comes before its lack of cost.
+# A form with a pair as head fails; `(q . X)` is X at a cost of 20; every other form needs a proper list of operands,
+# costs 1, and evaluates its operands one level deeper, the last one first. `a` then costs 90 and goes on with its first
+# value as program and its second as environment, at the form's own depth; another head is an operator. A failure of a
+# step comes before its lack of cost.
 def run(program, environment, fuel=FULL):
     """The value and its cost; raises Failed, Spent or Wide."""
     cost, pairs, used = fuel.cost, fuel.pairs, fuel.bytes

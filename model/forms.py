@@ -1,7 +1,7 @@
 """Chialisp text: its forms with their places, and their first fault.
 
-A form is `('atom', place, bytes)`, `('symbol', place, bytes)` or `('pair', place, first, rest)`. A place is the number of a text and
-the place in it.
+A form is `('atom', place, bytes)`, `('symbol', place, bytes)` or `('pair', place, first, rest)`. A place is the number of a
+text and the place in it.
 """
 from tokens import MOST_OPEN, ReadFault, skip, token_at
 from trees import NIL
@@ -59,9 +59,9 @@ class OpenList:
         return form
 
 
-# A list is forms between parentheses, at most 1,024 inside each other; a dot stands behind a form and before exactly one form and
-# the `)`. Of all faults the one with the smallest place is told, so that a fault behind a dot that is open is `dot` there, the
-# outermost such dot; one list too many is `deep` even there.
+# A list is forms between parentheses, at most 1,024 inside each other; a dot stands behind a form and before exactly
+# one form and the `)`. Of all faults the one with the smallest place is told, so that a fault behind a dot that is open
+# is `dot` there, the outermost such dot; one list too many is `deep` even there.
 def forms(text, number=0):
     """The forms of a text; the number is that of the text."""
     found, lists, place = [], [], 0

@@ -43,8 +43,9 @@ def run_of(spend, limit):
     return outcome
 
 
-# Rules 3 to 10 of one spend: its puzzle's hash is the coin's (3); its run doesn't fail (4), has enough cost (5) and isn't wide (6); no
-# condition is malformed (7) or unknown (8); its created coins differ (9); what it says of its own coin is so (10).
+# Rules 3 to 10 of one spend: its puzzle's hash is the coin's (3); its run doesn't fail (4), has enough cost (5) and
+# isn't wide (6); no condition is malformed (7) or unknown (8); its created coins differ (9); what it says of its own
+# coin is so (10).
 def facts_of(spend, limit):
     if tree_hash(spend.puzzle) != spend.coin.puzzle_hash:
         raise BrokenSpend(3)
@@ -70,8 +71,9 @@ def facts_of(spend, limit):
     return Facts(spend, conditions, created, cost + sum(map(condition_cost, conditions)), size)
 
 
-# A lock on time compares the peak with a number, for the relative ones counted from the coin's record: 80 and 84 seconds since the
-# coin, 81 and 85 seconds, 82 and 86 height since the coin, 83 and 87 height; 84 to 87 hold where 80 to 83 don't.
+# A lock on time compares the peak with a number, for the relative ones counted from the coin's record: 80 and 84
+# seconds since the coin, 81 and 85 seconds, 82 and 86 height since the coin, 83 and 87 height; 84 to 87 hold where 80
+# to 83 don't.
 def reaches(code, moment, peak, record):
     kind = (code - 80) % 4
     now = peak.seconds if kind < 2 else peak.height
@@ -131,7 +133,8 @@ class List:
         record = self.chain.records.get(facts.spend.coin.id)
         return record is not None and record.spent is not None
 
-    # 13: its birth isn't that of the record; or the coin is created by the list and its birth or a relative lock is asked for.
+    # 13: its birth isn't that of the record; or the coin is created by the list and its birth or a relative lock is
+    # asked for.
     def breaks_13(self, facts):
         id = facts.spend.coin.id
         for it in facts.conditions:
@@ -187,8 +190,8 @@ class List:
                     raise Broken(23, place)
                 seen.add(coin.id)
 
-    # The rules from 11 on, one after the other over all spends. 20 and 21 compare what is created, and with it what is reserved, with
-    # what is spent.
+    # The rules from 11 on, one after the other over all spends. 20 and 21 compare what is created, and with it what is
+    # reserved, with what is spent.
     def check(self):
         def over_all(*rules):
             for rule in rules:
@@ -209,8 +212,8 @@ class List:
         return spent - created
 
 
-# A coin is spent once (2); then each spend by itself, and after it the cost so far (5); then the rules from 11 on. The cost is 12,000 for
-# each byte of the generator, and the runs' and the conditions' costs.
+# A coin is spent once (2); then each spend by itself, and after it the cost so far (5); then the rules from 11 on. The
+# cost is 12,000 for each byte of the generator, and the runs' and the conditions' costs.
 def judge(chain, spends, attested, limit):
     """Cost, fee and the facts of the spends; raises Broken."""
     seen = set()

@@ -29,8 +29,8 @@ def paths(params):
     return found
 
 
-# How heavy and how deeply nested a form is: 1 and its bytes for an atom or symbol; 1 and both parts for a pair, whose first is one
-# list deeper and whose rest isn't. Shared parts are looked at once.
+# How heavy and how deeply nested a form is: 1 and its bytes for an atom or symbol; 1 and both parts for a pair, whose
+# first is one list deeper and whose rest isn't. Shared parts are looked at once.
 def weight_and_nesting(form):
     kept, todo = {}, [form]
     while todo:
@@ -64,9 +64,10 @@ class Expansion:
             raise MacroFault('turns-spent', place)
         self.turns -= 1
 
-    # A call is replaced from the outside in, before its operands are looked at, and the result is expanded again; nothing is
-    # expanded in what is quoted nor in a malformed template, and in a template only the operands of each `unquote`. A head that is
-    # a pair isn't looked at. Faults stand at the outermost call, which is the one that the text has.
+    # A call is replaced from the outside in, before its operands are looked at, and the result is expanded again;
+    # nothing is expanded in what is quoted nor in a malformed template, and in a template only the operands of each
+    # `unquote`. A head that is a pair isn't looked at. Faults stand at the outermost call, which is the one that the
+    # text has.
     def expanded(self, form, origin):
         while is_pair(form):
             head = form[2]
@@ -103,8 +104,8 @@ class Expansion:
             template = 'pair', template[1], template[2], (yield self.all_expanded(template[3], origin))
         return rebuilt(pairs, firsts, template)
 
-    # The parameters are bound to the list of the operands' forms. A result that is nested too deep is a bad macro, one that is too
-    # heavy is too large.
+    # The parameters are bound to the list of the operands' forms. A result that is nested too deep is a bad macro, one
+    # that is too heavy is too large.
     def called(self, name, operands, place):
         self.take_turn(place)
         params, body = self.macros[name]
@@ -116,8 +117,8 @@ class Expansion:
             raise MacroFault('too-large', place)
         return result
 
-    # What an expression of a body gives. Its turn is taken first, then its head and count are tested, then its operands are
-    # evaluated, the last one first, but for those of `if`. What it makes stands at the call.
+    # What an expression of a body gives. Its turn is taken first, then its head and count are tested, then its operands
+    # are evaluated, the last one first, but for those of `if`. What it makes stands at the call.
     def value(self, form, names, operands, place):
         bad = MacroFault('bad-macro', place)
         while True:
@@ -152,8 +153,8 @@ class Expansion:
                 values[at] = yield self.value(given[at], names, operands, place)
             return self.made(head[2], values, place)
 
-    # `f`, `r`, `c`, `l`, `i`, `=` and `list` on forms: the empty atom is false; `=` gives 1 for two atoms of equal bytes and for the
-    # same symbol twice.
+    # `f`, `r`, `c`, `l`, `i`, `=` and `list` on forms: the empty atom is false; `=` gives 1 for two atoms of equal
+    # bytes and for the same symbol twice.
     def made(self, head, values, place):
         def truth(holds):
             return 'atom', place, ONE if holds else NIL

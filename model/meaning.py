@@ -27,8 +27,9 @@ def bound_to(params, tree):
     return names
 
 
-# An inline's parameter stands for an expression of the caller: its path is followed through the list of operands; inside an operand
-# `f` or `r` is applied for each step; where it ends between operands it is the list of those from there; past their end it fails.
+# An inline's parameter stands for an expression of the caller: its path is followed through the list of operands;
+# inside an operand `f` or `r` is applied for each step; where it ends between operands it is the list of those from
+# there; past their end it fails.
 def standing_for(params, operands, caller):
     names = {}
     for name, steps in paths(params).items():

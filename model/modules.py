@@ -69,8 +69,8 @@ def parts_of_module(text):
     return parts[1], parts[2:-1], parts[-1]
 
 
-# A definition is `(defun NAME PARAMS body)`, the same with `defun-inline` or `defmacro`, `(defconstant NAME expression)`, or
-# `(include NAME)` with a symbol or an atom of ASCII bytes.
+# A definition is `(defun NAME PARAMS body)`, the same with `defun-inline` or `defmacro`, `(defconstant NAME
+# expression)`, or `(include NAME)` with a symbol or an atom of ASCII bytes.
 def definition_of(form):
     parts = proper(form) or [form]
     if is_symbol(parts[0], b'include') and len(parts) == 2 and (
@@ -108,8 +108,8 @@ class Definitions:
         self.found.append(definition)
         return []
 
-    # A built-in text comes before one of the library; a name adds nothing the second time. A library text is exactly one proper list
-    # of definitions; its number is how many texts were included with it.
+    # A built-in text comes before one of the library; a name adds nothing the second time. A library text is exactly
+    # one proper list of definitions; its number is how many texts were included with it.
     def included_forms(self, definition):
         name = definition.name[2]
         if name in self.included:
@@ -145,9 +145,10 @@ class Names:
     def __init__(self, params, constants, callable_names, in_constant=False):
         self.params, self.constants, self.callable_names, self.in_constant = params, constants, callable_names, in_constant
 
-    # From each pair to its head and its operands, the first one first: a head is a symbol, operands are a proper list, `if` has
-    # three, a template and a quote one; a symbol is a parameter or a constant, a head an operator, a word or what may be called. An
-    # expression of a constant names earlier constants alone and applies operators other than `a`.
+    # From each pair to its head and its operands, the first one first: a head is a symbol, operands are a proper list,
+    # `if` has three, a template and a quote one; a symbol is a parameter or a constant, a head an operator, a word or
+    # what may be called. An expression of a constant names earlier constants alone and applies operators other than
+    # `a`.
     def check(self, form):
         if is_symbol(form) and form[2] not in self.params and form[2] not in self.constants:
             raise ModuleFault('unbound', form[1])
@@ -329,9 +330,9 @@ class Weights:
         weight = finish(self.weight(form, found))
         return min(OVER, weight.some + sum(count * (1 + len(found[name])) for name, count in weight.times.items()))
 
-    # An atom, a quoted tree and a constant are 1 and the tree's weight; a template 1 and its tree's, with its expressions in it;
-    # `if`, `list`, an operator and a function call 1 and the operands'; an inline call 1 and its body's, in which each parameter
-    # counts as what it stands for.
+    # An atom, a quoted tree and a constant are 1 and the tree's weight; a template 1 and its tree's, with its
+    # expressions in it; `if`, `list`, an operator and a function call 1 and the operands'; an inline call 1 and its
+    # body's, in which each parameter counts as what it stands for.
     def weight(self, form, params):
         if is_symbol(form):
             return Weight(0, {form[2]: 1}) if form[2] in params else Weight(self.constants[form[2]])
@@ -373,8 +374,8 @@ class Weights:
         return total + Weight(1 + len(quoted_tree(template)))
 
 
-# What an inline's parameter counts: 1 where its path steps into the end of the operands; `(list ..)` of the operands from where it
-# ends on their spine; else the operand, and 1 for each step inside it.
+# What an inline's parameter counts: 1 where its path steps into the end of the operands; `(list ..)` of the operands
+# from where it ends on their spine; else the operand, and 1 for each step inside it.
 def stands_for(steps, weights):
     at = 0
     while at < len(steps) and steps[at] == 1 and at < len(weights):
@@ -391,8 +392,9 @@ def stands_for(steps, weights):
 
 # The module
 
-# The stages in their order: reading, shapes and names of definitions; expansion of all but macros; forms and names; constants;
-# inlines that reach themselves; weights. Within a stage the order is that of the text with included definitions in place.
+# The stages in their order: reading, shapes and names of definitions; expansion of all but macros; forms and names;
+# constants; inlines that reach themselves; weights. Within a stage the order is that of the text with included
+# definitions in place.
 def module(text, library=lambda name: None):
     """The module of a text, with its bound; the library gives a text by its name, or None."""
     params, written, body = parts_of_module(text)

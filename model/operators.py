@@ -220,8 +220,9 @@ def all_hold(*trees):
     return truth(all(it != NIL for it in trees), 200 + 300 * len(trees))
 
 
-# Each operator's name and code, the kinds of its operands, and what it does. The kinds: `*` any tree, `p` a pair, `a` an atom,
-# `n` a number, `w` an atom as long as a number; `..` is any count of the kind before it, `?` makes the last one optional.
+# Each operator's name and code, the kinds of its operands, and what it does. The kinds: `*` any tree, `p` a pair, `a`
+# an atom, `n` a number, `w` an atom as long as a number; `..` is any count of the kind before it, `?` makes the last
+# one optional.
 ROWS = (
     ('q', 1, None, None),
     ('a', 2, None, None),
@@ -268,8 +269,9 @@ def kinds_of(kinds, count):
     return kinds if count == len(kinds) else None
 
 
-# An operator is applied: its code must be in the table, then the count right, then each operand from the first on of its kind and
-# not too wide; then it does its work, whose own faults and wide results come; then its cost, pairs and bytes must be there.
+# An operator is applied: its code must be in the table, then the count right, then each operand from the first on of
+# its kind and not too wide; then it does its work, whose own faults and wide results come; then its cost, pairs and
+# bytes must be there.
 def apply(code, operands, cost, pairs, used):
     """Value, cost, pairs and bytes of an operator within what is left of these three."""
     if not is_atom(code) or code not in BY_CODE:

@@ -52,15 +52,15 @@ class Player:
         if record is None:
             return 'coin none'
         coin = record.coin
-        return 'coin %s %s %d %d %d %s' % (coin.parent.hex(), coin.puzzle_hash.hex(), coin.amount, record.height, record.seconds,
-                                           '-' if record.spent is None else record.spent)
+        spent = '-' if record.spent is None else record.spent
+        return 'coin %s %s %d %d %d %s' % (coin.parent.hex(), coin.puzzle_hash.hex(), coin.amount, record.height, record.seconds, spent)
 
     def list(self):
         return ' '.join(['pool %d' % len(self.pool.items), *[it.id.hex() for it in self.pool.items]])
 
 
-# A history has each command once and each lane's in order; each reply is the pool's at that place. The commands of several lanes may come in
-# any order of the lanes.
+# A history has each command once and each lane's in order; each reply is the pool's at that place. The commands of
+# several lanes may come in any order of the lanes.
 def illegal(session, lines):
     """None, or why these lines aren't an output of the session."""
     wanted = ['code %s %s' % (name, spelling(session.codes[name][0]).hex()) for name, _ in session.modules]
@@ -69,19 +69,22 @@ def illegal(session, lines):
     lanes = [[it for it in session.commands if it.lane == lane] for lane in range(session.header.lanes)]
     player, numbers = Player(session), [0] * len(lanes)
     for place, line in enumerate(lines[len(wanted):-2]):
-        words = line.split(' ', 3)
-        lane = int(words[1])
+        words = (line + '   ').split(' ', 3)
+        lane = int(words[1]) if words[1].isdigit() else len(lanes)
         if lane >= len(lanes) or numbers[lane] == len(lanes[lane]) or words[:3] != [str(place), str(lane), str(numbers[lane])]:
             return 'line %r is of no command that comes next' % line
         reply = player.reply(lanes[lane][numbers[lane]])
-        if words[3] != reply:
+        if words[3].rstrip(' ') != reply:
             return 'line %r should have the reply %r' % (line, reply)
         numbers[lane] += 1
     end = ['end %d' % len(session.commands), '']
-    return None if lines[-2:] == end and sum(numbers) == len(session.commands) else 'the end is %r, and not %r' % (lines[-2:], end)
+    if lines[-2:] != end or sum(numbers) != len(session.commands):
+        return 'the end is %r, and not %r' % (lines[-2:], end)
+    return None
 
 
-# First each module's code; then each entry of the history with its place, its lane and its number in the lane; last how many.
+# First each module's code; then each entry of the history with its place, its lane and its number in the lane; last how
+# many.
 def output(session):
     """The lines of a session whose commands are done in the order of the input."""
     player, numbers, lines = Player(session), [0] * session.header.lanes, []

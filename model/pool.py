@@ -19,7 +19,8 @@ def equal_spends(one, other):
     return one.coin == other.coin and same(one.puzzle, other.puzzle) and same(one.solution, other.solution)
 
 
-# Two bundles conflict where both spend a coin and the two spends aren't both forward, nor both the same with equal codes.
+# Two bundles conflict where both spend a coin and the two spends aren't both forward, nor both the same with equal
+# codes.
 def conflict(one, other):
     spends = {it.coin.id: (it, kind) for it, kind in zip(other.fit, other.classes)}
     for spend, kind in zip(one.fit, one.classes):
@@ -44,9 +45,9 @@ class Pool:
         cost, fee, _ = judge(self.chain, fit, bundle.attested, self.limits.max_cost)
         return Item(bundle, id, classes, fit, fee, cost)
 
-    # A bundle that is there already (30) or has no spend (1) is refused, and one whose fit isn't fine. Of those that it conflicts with it
-    # spends all coins (31), its fee per cost is higher than theirs together (32), and its fee by 10,000,000 (33); and without them the
-    # pool has room for it (34). It replaces them and goes last.
+    # A bundle that is there already (30) or has no spend (1) is refused, and one whose fit isn't fine. Of those that it
+    # conflicts with it spends all coins (31), its fee per cost is higher than theirs together (32), and its fee by
+    # 10,000,000 (33); and without them the pool has room for it (34). It replaces them and goes last.
     def admit(self, bundle):
         """The item and the ids that it replaced; raises Broken."""
         id = bundle_id(bundle)
@@ -94,8 +95,9 @@ class Pool:
         self.chain.roll_back(blocks)
         self.after_peak()
 
-    # By fee per cost, the larger first, and of equal ones the earlier. A bundle is taken exactly where all taken spends and then its fit
-    # with these taken, less its same spends that equal a taken one, are fine with the attested pairs of all.
+    # By fee per cost, the larger first, and of equal ones the earlier. A bundle is taken exactly where all taken spends
+    # and then its fit with these taken, less its same spends that equal a taken one, are fine with the attested pairs
+    # of all.
     def assemble(self, seconds, reward_hash):
         """The block, its fee, its cost and its facts; raises Broken."""
         peak = self.chain.peak

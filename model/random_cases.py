@@ -3,15 +3,18 @@ from evaluation import FULL, Failed, run
 from operators import CODE_OF, ROWS, Spent, Wide
 from random_modules import module_text
 from random_sessions import session_input
-from random_trees import as_input, as_word, deep_tree, some_atom, some_bytes, some_number, some_tree, spelled_tree, spelled_wrong
+from random_trees import (as_input, as_word, deep_tree, some_atom, some_bytes, some_number, some_tree, spelled_tree,
+                          spelled_wrong)
 from trees import NIL, proper_list, shortest, spelling
 
 OPERATORS = [(name, kinds) for name, _, kinds, does in ROWS if does]
+COMMON = 'c', 'f', 'r', 'l', 'i', '+', '-', '*', 'sha256', 'concat', 'not', 'any', 'strlen', '='
 TREE_WORDS = ('80', '01', 'ff0580', '0x80', '0xff0102', '820384')
-BAD_WORDS = ('', '-', '--', '0x', '8', '8080', '8101', 'fe', '0X80', ' 80', '80 ', 'é0', '-1', '-t', '--text', '--text=x', '--text=', '--tex',
-             '--cost', '--cost=', '--cost=5', '--cost=-1', '--cost=+5', '--cost=1000000000000', '--cost=1000000000001', '--Cost=5', '-cost=5',
-             '--cost=00000000000000000005', '--cost=000000000000000000005', '--cost= 5', '--cost=5_0', '--cost==5', '--help', '-h', '--version',
-             '-V', '--seed=1', '--workers', '--summary', '5', 'hash', 'eval', '0x8', 'ff', 'gg', '--=5', '---text', '--cost=٣')
+BAD_WORDS = ('', '-', '--', '0x', '8', '8080', '8101', 'fe', '0X80', ' 80', '80 ', 'é0', '-1', '-t', '--text', '--text=x',
+             '--text=', '--tex', '--cost', '--cost=', '--cost=5', '--cost=-1', '--cost=+5', '--cost=1000000000000',
+             '--cost=1000000000001', '--Cost=5', '-cost=5', '--cost=00000000000000000005', '--cost=000000000000000000005',
+             '--cost= 5', '--cost=5_0', '--cost==5', '--help', '-h', '--version', '-V', '--seed=1',
+             '--workers', '--summary', '5', 'hash', 'eval', '0x8', 'ff', 'gg', '--=5', '---text', '--cost=٣')
 
 
 # Words
@@ -23,7 +26,8 @@ def bad_words(rng, command):
         words[rng.randrange(len(words) + 1):0] = ['--cost', rng.choice(('5', '80', '1000000000001', '', '-5', '0x5', '--text'))]
     if command == 'curry' and rng.random() < 0.2:
         words = ['80'] * rng.choice((63, 64, 65))
-    first = command if rng.random() < 0.93 else rng.choice(('', 'Eval', 'evals', '--help', 'help', '-h', ' hash', 'hash ', 'eval=', '80'))
+    others = '', 'Eval', 'evals', '--help', 'help', '-h', ' hash', 'hash ', 'eval=', '80'
+    first = command if rng.random() < 0.93 else rng.choice(others)
     return [first] + words if rng.random() < 0.99 else []
 
 
@@ -78,12 +82,14 @@ def operands_of(rng, name, kinds):
         kinds = kinds[1:] if rng.random() < 0.5 else kinds + '*'
     values = [operand_of(rng, kind) for kind in kinds]
     if name in ('ash', 'lsh') and len(values) == 2 and rng.random() < 0.9:
-        values[1] = shortest(rng.choice((rng.randrange(-10, 10), rng.randrange(-140, 140), rng.choice((65535, -65535, 65536, -65536)))))
+        border = 65535, -65535, 65536, -65536
+        values[1] = shortest(rng.choice((rng.randrange(-10, 10), rng.randrange(-140, 140), rng.choice(border))))
     if name == 'substr' and len(values) > 1 and type(values[0]) is bytes and rng.random() < 0.85:
         ends = sorted(rng.randrange(0, len(values[0]) + 1) for _ in values[1:])
         values[1:] = [shortest(it + rng.choice((0, 0, 0, 0, 0, 0, 0, 1, -1))) for it in ends]
     if name in ('=', '>s') and len(values) == 2 and rng.random() < 0.5:
-        values[1] = values[0] if rng.random() < 0.5 or type(values[0]) is not bytes else values[0][:rng.randrange(len(values[0]) + 1)]
+        is_whole = rng.random() < 0.5 or type(values[0]) is not bytes
+        values[1] = values[0] if is_whole else values[0][:rng.randrange(len(values[0]) + 1)]
     return values
 
 
@@ -114,10 +120,10 @@ def expression(rng, most):
         return form('a', choice, b'\x01')
     if kind < 0.43:
         return rng.choice((some_tree(rng, 6), (CODE_OF['+'], (b'\x01', b'\x01')), ((b'\x01', NIL), NIL),
-                           (some_bytes(rng, rng.randrange(0, 3)), NIL), form('x', expression(rng, most - 2)), (b'\0\x01', (b'\x01', NIL)),
-                           form('a', b'\x01'), form('a'), form('a', b'\x01', b'\x01', b'\x01'), proper_list([b'\x0f', NIL])))
-    name, kinds = rng.choice(OPERATORS) if rng.random() < 0.3 else rng.choice(
-        [it for it in OPERATORS if it[0] in ('c', 'c', 'f', 'r', 'l', 'i', '+', '-', '*', 'sha256', 'concat', 'not', 'any', 'strlen', '=')])
+                           (some_bytes(rng, rng.randrange(0, 3)), NIL), form('x', expression(rng, most - 2)),
+                           (b'\0\x01', (b'\x01', NIL)), form('a', b'\x01'), form('a'),
+                           form('a', b'\x01', b'\x01', b'\x01'), proper_list([b'\x0f', NIL])))
+    name, kinds = rng.choice(OPERATORS) if rng.random() < 0.3 else rng.choice([it for it in OPERATORS if it[0] in COMMON])
     if name in 'fr' and rng.random() < 0.7:
         return form(name, form('c', expression(rng, most - 2), expression(rng, most - 2)))
     values = operands_of(rng, name, kinds)
@@ -127,15 +133,16 @@ def expression(rng, most):
 def countdown(rng):
     """A function that calls itself: it is the environment's first, its arguments follow."""
     again = form('a', b'\x02', form('c', b'\x02', form('c', form('-', b'\x05', quoted(b'\x01')), NIL)))
-    step = rng.choice((form('*', b'\x05', again), form('+', b'\x05', again), form('c', b'\x05', again), form('sha256', b'\x05', again),
-                       form('concat', b'\x05', again), again, form('logxor', again, b'\x05'), form('divmod', quoted(b'\x64'), again)))
+    step = rng.choice((*[form(it, b'\x05', again) for it in ('*', '+', 'c', 'sha256', 'concat')], again,
+                       form('logxor', again, b'\x05'), form('divmod', quoted(b'\x64'), again)))
     function = form('a', form('i', form('>', b'\x05', NIL), quoted(step), quoted(rng.choice((NIL, b'\x01', b'\x05')))), b'\x01')
     return form('a', quoted(function), form('c', quoted(function), b'\x01')), proper_list([shortest(rng.randrange(0, 60))])
 
 
 def endless(rng):
     """A program that runs itself for ever, or is as deep as the cost lets it."""
-    loop = rng.choice((form('a', b'\x01', b'\x01'), form('f', form('a', b'\x01', b'\x01')), form('+', form('a', b'\x01', b'\x01'))))
+    call = form('a', b'\x01', b'\x01')
+    loop = rng.choice((call, form('f', call), form('+', call)))
     return form('a', quoted(loop), quoted(loop)), NIL
 
 
@@ -295,7 +302,8 @@ def make_case(rng):
     words = []
     for name, most in ('seed', 2 ** 64 - 1), ('commands', 30), ('lanes', 16):
         if rng.random() < 0.97:
-            value = rng.choice((0, 1, most, most + 1)) if name != 'commands' and rng.random() < 0.2 else rng.randrange(1, most + 1)
+            is_border = name != 'commands' and rng.random() < 0.2
+            value = rng.choice((0, 1, most, most + 1)) if is_border else rng.randrange(1, most + 1)
             words.append(rng.choice(('--%s=%d', '--%s %d')) % (name, value))
     rng.shuffle(words)
     return ['make', *' '.join(words).split(), *['80'] * (rng.random() < 0.02)], b'', {}
@@ -307,5 +315,5 @@ def alone(case):
 
 
 BUILT = ('hash', 'eval', 'curry')          # the commands that the program has
-CASES = {'hash': alone(hash_case), 'eval': alone(eval_case), 'curry': alone(curry_case), 'compile': compile_case, 'session': session_case,
-         'replay': replay_case, 'make': make_case}
+CASES = {'hash': alone(hash_case), 'eval': alone(eval_case), 'curry': alone(curry_case), 'compile': compile_case,
+         'session': session_case, 'replay': replay_case, 'make': make_case}

@@ -4,7 +4,8 @@ from random_trees import some_number, some_tree
 from trees import number, proper_list, shortest
 
 OPERATORS = [(name, kinds) for name, _, kinds, does in ROWS if does]
-EASY = [it for it in OPERATORS if it[0] in ('+', '-', '*', 'c', 'l', 'not', 'any', 'all', '=', 'list', 'sha256', 'concat', 'strlen', 'i')]
+COMMON = '+', '-', '*', 'c', 'l', 'not', 'any', 'all', '=', 'sha256', 'concat', 'strlen', 'i'
+EASY = [it for it in OPERATORS if it[0] in COMMON]
 LIBRARIES = ('a.clib', 'b.clib', 'tree_hash.clib', 'condition_codes.clib')
 MACROS = (
     '(defmacro {0} (A B) (list c B A))',
@@ -20,9 +21,10 @@ MACROS = (
     '(defmacro {0} (A) (foo A))',
     '(defmacro {0} (A) (c (c A A) (c A (c A A))))',
 )
-WRONG_WORDS = ('0x5', '0x', '12x', '-3y', '170141183460469231731687303715884105728', '"open', '.', ')', '(', '(1 . 2 3)', '( . 1)', '(1 .)', '\x01',
-               'é', '(foo 1)', 'nothing', '(if 1 2)', '(unquote 1)', '((+ 1) 2)', '(+ . 1)', '(q)', '(qq)', '(qq 1 2)', '(quote)', '(quote 1 2)',
-               '(1 2)', '(mod (X) X)', '(include a.clib)', '(qq (unquote))', '(qq (1 unquote 2))', '(x)', '(a)', '(a (q . 1))', '(f 1)',
+WRONG_WORDS = ('0x5', '0x', '12x', '-3y', '170141183460469231731687303715884105728', '"open', '.', ')', '(', '(1 . 2 3)', '( . 1)',
+               '(1 .)', '\x01', 'é', '(foo 1)', 'nothing', '(if 1 2)', '(unquote 1)', '((+ 1) 2)', '(+ . 1)', '(q)', '(qq)', '(qq 1 2)',
+               '(quote)', '(quote 1 2)', '(1 2)', '(mod (X) X)', '(include a.clib)', '(qq (unquote))', '(qq (1 unquote 2))', '(x)',
+               '(a)', '(a (q . 1))', '(f 1)',
                '(list . 1)', 'mod', 'f', 'q', '(defun)', '(qq (unquote (unquote 1)))')
 
 
@@ -113,7 +115,8 @@ class Writer:
             count = rng.randrange(0, 4) if count is None or rng.random() < 0.05 else count
             return self.in_list(called, *inner(count))
         if kind < 0.79 and not is_constant:
-            return self.in_list('a', rng.choice(('(q . %s)' % rng.choice(('2', '(+ 2 5)', '(c 2 (q . 7))', '1', '(x)')), *inner(1))), *inner(1))
+            program = '(q . %s)' % rng.choice(('2', '(+ 2 5)', '(c 2 (q . 7))', '1', '(x)'))
+            return self.in_list('a', rng.choice((program, *inner(1))), *inner(1))
         name, kinds = rng.choice(EASY if rng.random() < 0.8 else [it for it in OPERATORS if it[0] != 'a'])
         count = rng.randrange(0, 4) if not kinds or kinds.endswith('..') else len(kinds.rstrip('?'))
         if name in ('f', 'r') and rng.random() < 0.8:
@@ -137,8 +140,8 @@ class Writer:
         """A function's body that calls itself with a smaller first operand."""
         first = names[0]
         again = self.in_list(name, '(- %s 1)' % first, *names[1:])
-        step = self.rng.choice(('(* {0} {1})', '(c {0} {1})', '(+ 1 {1})', '{1}', '(list {1} {0})', '(concat {0} {1})')).format(first, again)
-        return self.in_list('if', '(> 1 %s)' % first, self.expression(names, 2), step)
+        step = self.rng.choice(('(* {0} {1})', '(c {0} {1})', '(+ 1 {1})', '{1}', '(list {1} {0})', '(concat {0} {1})'))
+        return self.in_list('if', '(> 1 %s)' % first, self.expression(names, 2), step.format(first, again))
 
     def definition(self):
         rng, kind = self.rng, self.rng.random()
@@ -152,10 +155,11 @@ class Writer:
             self.macros.append(name)
             return rng.choice(MACROS).format(name, rng.randrange(3))
         if kind < 0.4:
-            return self.in_list('include', rng.choice(LIBRARIES) if rng.random() < 0.8 else rng.choice(('"a.clib"', 'none.clib', '97', '0xff', '""')))
+            others = '"a.clib"', 'none.clib', '97', '0xff', '""'
+            return self.in_list('include', rng.choice(LIBRARIES if rng.random() < 0.8 else others))
         if kind < 0.43 and rng.random() < 0.2:
-            return rng.choice(('(defun)', '(defun f (X) X)', '5', '()', '(defmacro m 5 5)', '(defun-inline x1 (A A) A)', '(defconstant 5 5)',
-                               '(defun q1 (X . 5) X)', '(include)', '(include (a))', '(foo)', '(defun k2 (X) X . 5)'))
+            return rng.choice(('(defun)', '(defun f (X) X)', '5', '()', '(defmacro m 5 5)', '(defun-inline x1 (A A) A)',
+                               '(defconstant 5 5)', '(defun q1 (X . 5) X)', '(include)', '(include (a))', '(foo)', '(defun k2 (X) X . 5)'))
         is_inline = kind > 0.7
         name = self.name('in' if is_inline else 'fn')
         words, names, count = self.params()
@@ -172,7 +176,8 @@ class Writer:
 
     def library(self):
         if self.rng.random() < 0.03:
-            return self.rng.choice(('', '5', '(1 . 2)', '((include a.clib))', '() ()', '(', '((defun))', '((include b.clib) (include a.clib))'))
+            return self.rng.choice(('', '5', '(1 . 2)', '((include a.clib))', '() ()', '(', '((defun))',
+                                    '((include b.clib) (include a.clib))'))
         return self.in_list(*[self.definition() for _ in range(self.rng.randrange(0, 3))])
 
     def text(self):
@@ -217,6 +222,7 @@ def environments(rng, count=8):
     """Argument trees: mostly lists of small numbers."""
     found = []
     for _ in range(count):
-        parts = [some_tree(rng, 3) if rng.random() < 0.3 else shortest(rng.randrange(-2, 9)) for _ in range(rng.randrange(0, 6))]
+        parts = [some_tree(rng, 3) if rng.random() < 0.3 else shortest(rng.randrange(-2, 9))
+                 for _ in range(rng.randrange(0, 6))]
         found.append(proper_list(parts) if rng.random() < 0.9 else some_tree(rng, 6))
     return found

@@ -1,7 +1,7 @@
 """Random sessions and inputs of `replay`, good and bad.
 
-A session is made along its own course: its commands are played on the model while they are written, so that blocks follow the peak
-and conditions often hold.
+A session is made along its own course: its commands are played on the model while they are written, so that blocks follow
+the peak and conditions often hold.
 """
 import json
 
@@ -14,7 +14,7 @@ from playing import Player
 from random_modules import module_text
 from random_trees import as_word, some_atom, some_tree, spelled_wrong
 from session_lines import Command, Header, Session
-from trees import NIL, proper_list, sha256, shortest, spelling, tree_hash
+from trees import NIL, number, proper_list, sha256, shortest, spelling, tree_hash
 
 OWN = b'\x01'                                                     # the solution is the list of conditions
 INNER = (b'\x02', (b'\x05', (b'\x2f', NIL)))                       # runs its second argument on its solution's third element
@@ -23,7 +23,9 @@ SINGLETON = tree_hash(INNER)
 STRUCT = (SINGLETON, (b'\x33' * 32, b'\x44' * 32))
 TOP = curried(INNER, [STRUCT, OWN])
 KEYS = [bytes([it]) * 48 for it in (0, 1, 255)]
-AMOUNTS = (0, 1, 1, 3, 127, 128, 255, 1000, 1000, 1001, 65_535, 1_000_000, 20_000_000, 30_000_001, 2 ** 40, 2 ** 63, 2 ** 64 - 1)
+AMOUNTS = (0, 1, 1, 3, 127, 128, 255, 1000, 1000, 1001, 65_535, 1_000_000, 20_000_000, 30_000_001, 2 ** 40, 2 ** 63,
+           2 ** 64 - 1)
+COMMANDS = ('admit',) * 8 + ('farm', 'farm', 'assemble', 'block', 'block', 'rollback', 'coin', 'list', 'peak')
 LINE_FAULTS = (0, 0, 0, 0, 0.01, 0.05)
 
 
@@ -33,7 +35,8 @@ class Course:
     def __init__(self, rng, is_replay=False):
         self.rng, self.is_replay = rng, is_replay
         self.lines, self.hex_chance = [], rng.choice((0, 0.2))
-        self.puzzles = [OWN, OWN, (b'\x01', NIL), TOP, TOP, FAILING, WIDE_PUZZLE, (b'\x01', some_tree(rng, 3)), curried(OWN, [some_atom(rng)])]
+        self.puzzles = [OWN, OWN, (b'\x01', NIL), TOP, TOP, FAILING, WIDE_PUZZLE, (b'\x01', some_tree(rng, 3)),
+                        curried(OWN, [some_atom(rng)])]
         self.known = {tree_hash(it): it for it in self.puzzles}
         self.bundles = []
         self.header()
@@ -60,8 +63,8 @@ class Course:
         line, seconds = {'session': 1, 'genesis': self.hex(genesis)}, rng.choice((0, 5, 100, 2 ** 64 - 200))
         line['seconds'] = seconds
         values = {'lanes': 1, 'max_cost': 11_000_000_000, 'pool_cost': 110_000_000_000, 'reward': 0}
-        choices = {'lanes': (1, 1, 2, 16), 'max_cost': (3_000_000, 6_000_000, 22_000_000_000), 'pool_cost': (0, 3_000_000, 9_000_000, 220_000_000_000),
-                   'reward': (0, 3, 1000, 1_750_000_000_000)}
+        choices = {'lanes': (1, 1, 2, 16), 'max_cost': (3_000_000, 6_000_000, 22_000_000_000),
+                   'pool_cost': (0, 3_000_000, 9_000_000, 220_000_000_000), 'reward': (0, 3, 1000, 1_750_000_000_000)}
         for key, many in choices.items():
             if rng.random() < 0.35:
                 values[key] = line[key] = rng.choice(many)
@@ -111,7 +114,9 @@ class Course:
         value = peak.seconds if kind < 2 else peak.height
         if kind % 2 == 0 and record:
             value -= record.seconds if kind == 0 else record.height
-        return value + rng.choice((0, 0, 1, -1, -1, 100, -100) if code < 84 else (1, 1, 1, 0, -1, 100)) if rng.random() < 0.9 else rng.choice((-2 ** 100, 2 ** 100, -1))
+        if rng.random() < 0.1:
+            return rng.choice((-2 ** 100, 2 ** 100, -1))
+        return value + rng.choice((0, 0, 1, -1, -1, 100, -100) if code < 84 else (1, 1, 1, 0, -1, 100))
 
     def operand(self, kind, code, coin):
         rng = self.rng
@@ -129,12 +134,14 @@ class Course:
             return shortest(self.moment(code, coin))
         if kind == 'amount':
             return shortest(coin.amount if code == 73 and rng.random() < 0.9 else rng.choice(AMOUNTS[:9]))
-        own = {64: coin.id, 65: coin.puzzle_hash, 70: coin.id, 71: coin.parent, 72: coin.puzzle_hash, 61: sha256(coin.id, b'hello'),
-               63: sha256(coin.puzzle_hash, b'hello')}
-        return own[code] if code in own and rng.random() < 0.9 else rng.choice([tree_hash(it) for it in self.puzzles] + [bytes(32)])
+        own = {64: coin.id, 65: coin.puzzle_hash, 70: coin.id, 71: coin.parent, 72: coin.puzzle_hash,
+               61: sha256(coin.id, b'hello'), 63: sha256(coin.puzzle_hash, b'hello')}
+        if code in own and rng.random() < 0.9:
+            return own[code]
+        return rng.choice([*self.known, bytes(32)])
 
     def part(self, name, coin):
-        return shortest(coin.amount) if name == 'amount' else {'id': coin.id, 'parent': coin.parent, 'puzzle_hash': coin.puzzle_hash}[name]
+        return shortest(coin.amount) if name == 'amount' else getattr(coin, name)
 
     def condition(self, coin):
         rng = self.rng
@@ -142,12 +149,12 @@ class Course:
         words = [shortest(code)]
         for kind in kinds:
             if kind == 'parts':
-                words += [self.part(it, coin) for it in other_side(code, words[1][0] if words[1] else 0)]
+                words += [self.part(it, coin) for it in other_side(code, number(words[1]))]
             else:
                 words.append(self.operand(kind, code, coin))
         if code in (66, 67) and rng.random() < 0.7:
-            other = [shortest(133 - code), *words[1:3], *[self.part(it, coin) for it in other_side(133 - code, words[1][0] if words[1] else 0)]]
-            return [proper_list(words), proper_list(other)]
+            parts = [self.part(it, coin) for it in other_side(133 - code, number(words[1]))]
+            return [proper_list(words), proper_list([shortest(133 - code), *words[1:3], *parts])]
         if code in (61, 63) and rng.random() < 0.8:
             return [proper_list([shortest(code - 1), b'hello']), proper_list(words)]
         chance = rng.random()
@@ -249,8 +256,8 @@ class Course:
         chance = rng.random()
         seconds = peak.seconds + rng.choice((1, 19, 100)) if chance < 0.93 else peak.seconds
         bundle = self.bundle() if rng.random() < 0.6 else Bundle([], [])
-        block = Block(peak.hash if chance < 0.97 else bytes(32), peak.height + (1 if chance < 0.985 else 2), min(seconds, 2 ** 64 - 1),
-                      rng.choice((b'\x22' * 32, tree_hash(OWN))), bundle.spends, bundle.attested)
+        block = Block(peak.hash if chance < 0.97 else bytes(32), peak.height + (1 if chance < 0.985 else 2),
+                      min(seconds, 2 ** 64 - 1), rng.choice((b'\x22' * 32, tree_hash(OWN))), bundle.spends, bundle.attested)
         spelled = block_bytes(block)
         if rng.random() < 0.06:
             spelled = spelled_wrong(rng, spelled) if rng.random() < 0.6 else spelling(some_tree(rng, 6))
@@ -258,7 +265,7 @@ class Course:
 
     def command(self):
         rng, peak = self.rng, self.player.pool.chain.peak
-        kind = 'block' if self.is_replay else rng.choice(('admit',) * 8 + ('farm', 'farm', 'assemble', 'block', 'block', 'rollback', 'coin', 'list', 'peak'))
+        kind = 'block' if self.is_replay else rng.choice(COMMANDS)
         if kind == 'admit':
             bundle = self.bundle()
             return kind, [bundle], {'bundle': self.bundle_json(bundle)}
@@ -287,8 +294,8 @@ class Course:
             self.lines.append(whole | line)
 
 
-VALUES = (None, True, False, -1, 0, 1, 2, 17, 2 ** 64, 1.0, 1e300, '', '0x', '00', '11' * 32, '0X' + '11' * 32, '80', '8080', '@m0', '@M', '@none', '@', 'x',
-          [], {}, [[]], [['00' * 48, '']], 'g0', '0', 'é', '@' + 'a' * 65, {'coin_spends': []})
+VALUES = (None, True, False, -1, 0, 1, 2, 17, 2 ** 64, 1.0, 1e300, '', '0x', '00', '11' * 32, '0X' + '11' * 32, '80', '8080', '@m0',
+          '@M', '@none', '@', 'x', [], {}, [[]], [['00' * 48, '']], 'g0', '0', 'é', '@' + 'a' * 65, {'coin_spends': []})
 
 
 def spoiled_value(rng, value):
@@ -308,15 +315,19 @@ def spoiled_value(rng, value):
     elif chance < 0.9 and keys:
         part[key] = rng.choice(VALUES)
     elif type(part) is dict:
-        part[rng.choice(('session', 'module', 'source', 'singleton', 'coin', 'do', 'lane', 'more', 'attested'))] = rng.choice(VALUES)
+        name = rng.choice(('session', 'module', 'source', 'singleton', 'coin', 'do', 'lane', 'more', 'attested'))
+        part[name] = rng.choice(VALUES)
     return value
 
 
 def spoiled_text(rng, text):
     at = rng.randrange(len(text) + 1)
-    return rng.choice((text[:at], text[:at] + text[at + 1:], text[:at] + rng.choice('{}[]",:x0-. \\\x01\xe9') + text[at:], text + 'x', '[' + text + ']', '1',
-                       '"text"', 'null', '{}', '[' * 126 + ']' * 126, '{"do":' + '[' * 127 + ']' * 127 + '}', text.replace(':1', ':1.0', 1),
-                       text.replace(':', ':1e999,"more":', 1), '{"more":"\\ud800"}', '{"do":"peak","do":"list"}', 'NaN', '{"do":01}', '\ufeff' + text))
+    more = rng.choice('{}[]",:x0-. \\\x01\xe9')
+    return rng.choice((text[:at], text[:at] + text[at + 1:], text[:at] + more + text[at:], text + 'x', '[' + text + ']', '1', '"text"',
+                       'null', '{}', '[' * 126 + ']' * 126, '{"do":' + '[' * 127 + ']' * 127 + '}',
+                       '{"do":' + '[' * 126 + ']' * 126 + '}', text.replace(':1', ':1.0', 1),
+                       text.replace(':', ':1e999,"more":', 1), '{"more":"\\ud800"}', '{"do":"peak","do":"list"}', 'NaN',
+                       '{"do":01}', '\ufeff' + text))
 
 
 def as_line(rng, value, faults):
@@ -328,9 +339,12 @@ def as_line(rng, value, faults):
 
 def payment_session(rng):
     """A session of one bundle whose puzzles are quoted lists of created coins."""
-    lines, coins = [{'session': 1, 'genesis': rng.choice(('11' * 32, rng.randbytes(32).hex())), 'seconds': rng.choice((0, 5, 2 ** 64 - 1))}], []
-    puzzles = [(b'\x01', proper_list([proper_list([b'\x33', rng.choice((b'\x22' * 32, rng.randbytes(32))), shortest(rng.choice((0, 1, 5, 100, 127, 128)))])
-                                      for _ in range(rng.randrange(0, 4))])) for _ in range(3)]
+    genesis = rng.choice(('11' * 32, rng.randbytes(32).hex()))
+    lines, coins = [{'session': 1, 'genesis': genesis, 'seconds': rng.choice((0, 5, 2 ** 64 - 1))}], []
+
+    def created():
+        return proper_list([b'\x33', rng.choice((b'\x22' * 32, rng.randbytes(32))), shortest(rng.choice((0, 1, 5, 100, 127, 128)))])
+    puzzles = [(b'\x01', proper_list([created() for _ in range(rng.randrange(0, 4))])) for _ in range(3)]
     for _ in range(rng.randrange(0, 5)):
         puzzle = rng.choice(puzzles)
         coins.append((Coin(rng.choice((bytes(32), rng.randbytes(32))), tree_hash(puzzle), rng.choice(AMOUNTS)), puzzle))
@@ -343,7 +357,8 @@ def payment_session(rng):
         if coins:
             coin, puzzle = rng.choice(coins)
             puzzle = puzzle if rng.random() < 0.95 else rng.choice(puzzles)
-            spends.append({'coin': coin_line(coin), 'puzzle_reveal': spelling(puzzle).hex(), 'solution': spelling(some_tree(rng, 3)).hex()})
+            spends.append({'coin': coin_line(coin), 'puzzle_reveal': spelling(puzzle).hex(),
+                           'solution': spelling(some_tree(rng, 3)).hex()})
     if spends:
         lines.append({'do': 'admit', 'bundle': {'coin_spends': spends}})
     for _ in range(rng.randrange(0, 4)):

@@ -17,7 +17,8 @@ def some_number(rng):
     """The atom of a number that fits in 16 bytes, mostly short or at a border, now and then with bytes that say nothing."""
     kind = rng.random()
     value = (rng.randrange(-3, 12) if kind < 0.4 else rng.choice(BORDERS) if kind < 0.7 else
-             rng.randrange(-2 ** 15, 2 ** 15) if kind < 0.85 else rng.randrange(-2 ** rng.randrange(1, 128), 2 ** rng.randrange(1, 128)))
+             rng.randrange(-2 ** 15, 2 ** 15) if kind < 0.85 else
+             rng.randrange(-2 ** rng.randrange(1, 128), 2 ** rng.randrange(1, 128)))
     value = max(-2 ** 127, min(2 ** 127 - 1, value))
     atom = shortest(value)
     if rng.random() < 0.08:
@@ -105,7 +106,8 @@ def as_input(rng, spelled, faults=0.0):
         at = rng.randrange(len(text) + 1)
         wrong = rng.choice(('g', ' ', '\n', '0', '-', '0x', '\0', '\x80', '\xe9', '0X', 'x', '\x0c', '\x0b'))
         text = text[:at] + wrong + text[at + rng.randrange(2):]
-    blanks = [''.join(rng.choice(' \t\r\n') for _ in range(rng.randrange(1, 4))) if rng.random() < 0.2 else '' for _ in range(2)]
+    blanks = [''.join(rng.choice(' \t\r\n') for _ in range(rng.randrange(1, 4))) if rng.random() < 0.2 else ''
+              for _ in range(2)]
     if rng.random() < 0.5:
         blanks[1] += '\n'
     return (blanks[0] + text + blanks[1]).encode('latin-1')

@@ -185,11 +185,14 @@ def session_line(session, line):
     member(session, line, 'session', whole(1, 1))
     session.header = Header(
         member(session, line, 'genesis', bytes_32), member(session, line, 'seconds', whole(0, ANY)),
-        member(session, line, 'lanes', whole(1, 16), 1), member(session, line, 'max_cost', whole(1_000_000, 22_000_000_000), 11_000_000_000),
-        member(session, line, 'pool_cost', whole(0, 220_000_000_000), 110_000_000_000), member(session, line, 'reward', whole(0, ANY), 0))
+        member(session, line, 'lanes', whole(1, 16), 1),
+        member(session, line, 'max_cost', whole(1_000_000, 22_000_000_000), 11_000_000_000),
+        member(session, line, 'pool_cost', whole(0, 220_000_000_000), 110_000_000_000),
+        member(session, line, 'reward', whole(0, ANY), 0))
 
 
-# After its members a module's name may be there already, its text may have a fault, its code be too large, or there are too many.
+# After its members a module's name may be there already, its text may have a fault, its code be too large, or there are
+# too many.
 def module_line(session, line, library, given):
     called = member(session, line, 'module', name)
     if 'source' in line or 'curry' not in line:
@@ -265,8 +268,8 @@ def numbered_lines(given):
     return [(at, it) for at, it in enumerate(lines, 1) if it.strip(b' \t')]
 
 
-# A line's kind is the first of these members that it has. The kinds stand in order; the first line is the session's, which comes once,
-# as a singleton's does.
+# A line's kind is the first of these members that it has. The kinds stand in order; the first line is the session's,
+# which comes once, as a singleton's does.
 def kind_of(line, before, is_replay):
     try:
         value = value_of(line)
@@ -277,8 +280,12 @@ def kind_of(line, before, is_replay):
     kind = next((it for it in KINDS if it in value), None)
     if kind is None:
         raise LineFault('unknown-kind')
-    ranks = [KINDS.index(it) for it in (kind, before or kind)]
-    in_order = kind == 'session' if before is None else ranks[0] > ranks[1] or kind == before and kind not in ('session', 'singleton')
+    if before is None:
+        in_order = kind == 'session'
+    elif kind == before:
+        in_order = kind not in ('session', 'singleton')
+    else:
+        in_order = KINDS.index(kind) > KINDS.index(before)
     if not in_order or is_replay and (kind in ('module', 'singleton') or kind == 'do' and value['do'] != 'block'):
         raise LineFault('out-of-order')
     return kind, value

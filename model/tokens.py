@@ -8,7 +8,7 @@ MOST_OPEN = 1_024          # lists inside each other
 
 
 class ReadFault(Exception):
-    """The first fault of a text: `end`, `close`, `dot`, `hex`, `number`, `text`, `byte`, `deep`, or for CLVM text `name`, `left`."""
+    """The first fault of a text: `end`, `close`, `dot`, `hex`, `number`, `text`, `byte` or `deep`; in CLVM text `name`, `left` too."""
 
     def __init__(self, kind, place):
         super().__init__(kind, place)
@@ -32,8 +32,8 @@ def skip(text, place):
     return place
 
 
-# A word of an optional `-` and digits is a number of 128 bits; `0x` and pairs of digits, at least one, are bytes; another word that
-# begins as a number is wrong; every other word is a symbol.
+# A word of an optional `-` and digits is a number of 128 bits; `0x` and pairs of digits, at least one, are bytes;
+# another word that begins as a number is wrong; every other word is a symbol.
 def word_token(word, place):
     digits = word[1:] if word[:1] == b'-' else word
     if word[:2] == b'0x':
@@ -50,8 +50,8 @@ def word_token(word, place):
     return 'atom', shortest(int(word))
 
 
-# The token at a place that is no blank: its kind (`(`, `)`, `.`, `atom` or `symbol`), its bytes, and where it ends. A byte outside
-# 21 to 7e stands only in comments and between quotes.
+# The token at a place that is no blank: its kind (`(`, `)`, `.`, `atom` or `symbol`), its bytes, and where it ends. A
+# byte outside 21 to 7e stands only in comments and between quotes.
 def token_at(text, place):
     byte = text[place]
     if byte in b'()':

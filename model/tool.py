@@ -71,4 +71,5 @@ def play(words, given, library=no_library, codes=()):
         return 1, str(fault).encode() + b'\n'
     if type(lines) is not list:
         return 0, lines
-    return int(lines[0].startswith('module ') if command == 'compile' and lines else 0), ''.join(it + '\n' for it in lines).encode()
+    status = int(command == 'compile' and lines[0].startswith('module '))
+    return status, ''.join(it + '\n' for it in lines).encode()

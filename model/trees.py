@@ -21,8 +21,8 @@ class SpellingFault(Exception):
         self.kind, self.place = kind, place
 
 
-# The bytes before an atom tell its length; of four widths the shortest that does is taken. The empty atom is 80, and a single
-# byte below 80 stands for itself.
+# The bytes before an atom tell its length; of four widths the shortest that does is taken. The empty atom is 80, and a
+# single byte below 80 stands for itself.
 def atom_spelling(atom):
     length = len(atom)
     if length == 1 and atom[0] < 0x80:
@@ -38,8 +38,9 @@ def atom_spelling(atom):
     raise ValueError('an atom of %d bytes has no spelling' % length)
 
 
-# The atom that is spelled at a place, and where its spelling ends. Tested in this order: a byte f8 to fe begins nothing; the prefix
-# may be cut; its length must need this prefix; the atom's bytes may be cut; one byte below 80 has no prefix.
+# The atom that is spelled at a place, and where its spelling ends. Tested in this order: a byte f8 to fe begins
+# nothing; the prefix may be cut; its length must need this prefix; the atom's bytes may be cut; one byte below 80 has
+# no prefix.
 def atom_at(spelled, place):
     head = spelled[place]
     if head < 0x80:

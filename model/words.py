@@ -3,7 +3,8 @@ from trees import SpellingFault, read_whole
 
 MOST_SPELLED = 67_108_864
 
-# For each command: its numbers with their ranges and defaults (None: it must be given), its flags, and how many CLVM words.
+# For each command: its numbers with their ranges and defaults (None: it must be given), its flags, and how many CLVM
+# words.
 COMMANDS = {
     'compile': ({}, ('text',), 0, 0),
     'curry': ({}, (), 0, 64),
@@ -60,9 +61,9 @@ def number_of_word(word, least, most):
     return int(word)
 
 
-# The first word names the command. Of the others each that begins with `-` and isn't an option's value is an option, spelled in
-# full and given at most once: `--FLAG`, `--NUMBER VALUE` or `--NUMBER=VALUE`. The rest are CLVM words, as many as the command takes,
-# of at most 67,108,864 bytes together.
+# The first word names the command. Of the others each that begins with `-` and isn't an option's value is an option,
+# spelled in full and given at most once: `--FLAG`, `--NUMBER VALUE` or `--NUMBER=VALUE`. The rest are CLVM words, as
+# many as the command takes, of at most 67,108,864 bytes together.
 def parse(words):
     """The command's name, its options, and the trees of its CLVM words."""
     if not words or words[0] not in COMMANDS:

@@ -2,3 +2,4 @@ pub mod PathLaws
 pub mod EvaluationLaws
 pub mod StateLaws
 pub mod FormLaws
+pub mod QuickLaws

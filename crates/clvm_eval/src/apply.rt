@@ -1,23 +1,24 @@
 //! An operator whose operands are evaluated.
 
-ghost use Rattle.std.specs.Prelude.{◌≡◌, ℕ, ◌+◌, ◌-◌, ◌<◌, ◌≤◌, ◌++◌, List, [], ◌∷◌, length, take, true, false, IfOk, IfErr, OnOk, OnErr};
+ghost use Rattle.std.specs.Prelude.{◌≡◌, ◌^◌, ℕ, ◌+◌, ◌-◌, ◌<◌, ◌≤◌, ◌++◌, List, [], ◌∷◌, length, take, true, false, IfOk, IfErr, OnOk, OnErr};
 ghost use Rattle.clvm_spec.specs.declared.fuel.Fuel.{Fuel};
 ghost use Rattle.clvm_spec.specs.Tree.{Tree};
 ghost use Rattle.clvm_spec.specs.Outcomes.{WithinFuel};
 ghost use Rattle.clvm_spec.specs.Evaluation.{in_form, is_code};
 ghost use Rattle.clvm_spec.specs.OperatorTable.{apply_code};
-ghost use Rattle.clvm_tree.specs.Nodes.{tree_at, IsKnown, Grows};
-ghost use Rattle.clvm_tree.specs.Operators.{IsWithin, IsOpFault};
+ghost use Rattle.clvm_tree.specs.Nodes.{tree_at, IsKnown, AreKnown, Grows};
+ghost use Rattle.clvm_tree.specs.Operators.{trees_at, outcome_by, IsAnswer, IsWithin, IsOpFault};
 ghost use Rattle.clvm_eval.specs.Runs.{IsRunFault};
 ghost use Rattle.clvm_eval.specs.Steps.{IsOpen, Advances, StepsTo, TakesAnswer, outcome_of};
 ghost use Rattle.clvm_eval.specs.declared.state.Step.TheVariants as step;
 
 use crate::evaluate::is_byte;
+use crate::quick::quick;
 use crate::state::{Frame, State, Step, pay};
 use crate::{RunFault, Why};
 use clvm_spec::costs::APPLY_COST;
 use clvm_spec::op_codes::APPLY;
-use clvm_tree::{Answer, Node, OpFault, Operators, Sight, Trees, Which};
+use clvm_tree::{Answer, Fuel, Node, OpFault, Operators, Sight, Trees, Which};
 use std::alloc::Global;
 
 /// Whether the code is that of `a`, which goes on with its operands.
@@ -46,6 +47,34 @@ fn fault_in(form: Node, fault: OpFault) -> RunFault
         OpFault::Wide => RunFault::Wide,
         OpFault::Spent(which) => RunFault::Spent(which),
         OpFault::OutOfMemory => RunFault::OutOfMemory,
+    }
+}
+
+// What the operator of this code gives, at once where that can be told, else by the table.
+fn answer<O: Operators>(
+    alloc: Global,
+    trees: &mut Trees,
+    ops: &O,
+    code: Node,
+    operands: &[Node],
+    left: Fuel,
+) -> Result<Answer, OpFault>
+    requires code_known { IsKnown trees.old code.0 }
+    requires operands_known { AreKnown trees.old operands.now }
+    requires fits { length trees.old + length operands.now + left.pairs + left.bytes < 2 ^ 31 }
+    ensures grows { Grows trees.old trees.new }
+    ensures few { IfOk result (λ answer. length trees.new ≤ length trees.old + answer.pairs + answer.bytes) }
+    ensures within { IfOk result (IsWithin left) }
+    ensures gives { IfOk result (IsAnswer trees.new
+        (outcome_by (tree_at trees.old code.0) (trees_at trees.old operands.now) left)) }
+    ensures few_after_fault { OnErr result
+        (length trees.new ≤ length trees.old + length operands.now + left.pairs + left.bytes) }
+    ensures fault { IfErr result (IsOpFault trees.new
+        (outcome_by (tree_at trees.old code.0) (trees_at trees.old operands.now) left)) }
+{
+    match quick(alloc, trees, code, operands, left) {
+        Some(answer) => Ok(answer),
+        None => ops.apply(alloc, trees, code, operands, left),
     }
 }
 
@@ -82,7 +111,7 @@ impl State {
         self.operands.truncate(start);
     }
 
-    /// Applies an operator from the table to its operands.
+    /// Applies an operator to its operands.
     pub(crate) fn operate<O: Operators>(
         &mut self,
         alloc: Global,
@@ -99,7 +128,7 @@ impl State {
         ensures fault { IfErr result (IsRunFault trees.new (outcome_of trees.old self.old (step.Open frame))) }
     {
         let start = self.operands.len() - frame.count as usize;
-        match ops.apply(alloc, trees, frame.code, &self.operands[start..], self.left) {
+        match answer(alloc, trees, ops, frame.code, &self.operands[start..], self.left) {
             Ok(answer) => {
                 self.take_answer(start, answer);
                 Ok(self.give(trees, answer.value))

@@ -99,12 +99,12 @@ fn begin_pair(
     Ok(Begun::Value(rest))
 }
 
-// Whether the node is the empty atom.
-fn is_nil(trees: &Trees, node: Node) -> bool
+/// Whether the node is the empty atom.
+pub(crate) fn is_nil(trees: &Trees, node: Node) -> bool
     requires { IsKnown trees.now node.0 }
     ensures { result ≡ is_nil (tree_at trees.now node.0) }
 {
-    matches!(trees.look(node), Sight::Bytes([]))
+    trees.is_nil(node)
 }
 
 // Adds the elements of a list, and tells how many there are, None where nil doesn't end it.

@@ -8,6 +8,7 @@ mod apply;
 mod evaluate;
 mod machine;
 mod path;
+mod quick;
 mod state;
 
 pub use clvm_tree::{Fuel, Node, Operators, OutOfMemory, Trees, Which};

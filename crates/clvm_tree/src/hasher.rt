@@ -30,11 +30,10 @@ pub fn atom_hash(bytes: &[u8]) -> Hash
 pub fn pair_hash(first: &Hash, rest: &Hash) -> Hash
     ensures { result ≡ pair_hash first.now rest.now }
 {
-    let mut hasher = Sha256::new();
-    hasher.update([2u8]);
-    hasher.update(first.as_slice());
-    hasher.update(rest.as_slice());
-    hasher.finalize()
+    let mut message = [2u8; 65];
+    message[1..33].copy_from_slice(first.as_slice());
+    message[33..].copy_from_slice(rest.as_slice());
+    Sha256::digest(message.as_slice())
 }
 
 /// The tree hash of a proper list whose elements have these hashes.

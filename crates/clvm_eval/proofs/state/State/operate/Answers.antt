@@ -10,8 +10,8 @@ use Rattle.clvm_eval.proofs.StateLaws.{AreKnown-take, AreKnown-drop}
 use Rattle.clvm_eval.proofs.FormLaws.{fault_of_all, other_part, answer_room, answer_there, answer_same, advanced}
 use Rattle.clvm_eval.proofs.state.State.operate.Goals as goal
 
-pub apply-requires-clause-operands_known : goal.apply-requires-clause-operands_known
-apply-requires-clause-operands_known g c =
+pub answer-requires-clause-operands_known : goal.answer-requires-clause-operands_known
+answer-requires-clause-operands_known g c =
     let trees = c.args.trees.now in
     let start = c.len.result - c.args.frame.count in
     let seen = c.deref.result.now in
@@ -27,14 +27,14 @@ give-requires g c =
     let answer = c.in-Ok.answer in
     let at : start ≡ length before.operands.items - frame.count = omega (arith, c.len.ensures, before.operands.ok.0) in
     let own : take (length seen - start) (drop start seen) ≡ last_operands before frame = take_rest seen start ∙ ap (drop start) c.deref.ensures.value ∙ ap (λ i. drop i before.operands.items) at in
-    let gives = subst (λ ops. IsAnswer c.apply.new.trees (outcome_by (tree_at old frame.code.0) (trees_at old ops) before.left) answer) own c.in-Ok.ensures.gives in
+    let gives = subst (λ ops. IsAnswer c.answer.new.trees (outcome_by (tree_at old frame.code.0) (trees_at old ops) before.left) answer) own c.in-Ok.ensures.gives in
     let takes = subst (λ i. TakesAnswer i answer before c.take_answer.new.self) at c.take_answer.ensures in
-    answer_there old c.apply.new.trees before c.take_answer.new.self frame answer c.requires.opened c.in-Ok.ensures.grows c.in-Ok.ensures.few c.in-Ok.ensures.within gives takes
+    answer_there old c.answer.new.trees before c.take_answer.new.self frame answer c.requires.opened c.in-Ok.ensures.grows c.in-Ok.ensures.few c.in-Ok.ensures.within gives takes
 
 pub returns-in-Ok-clause-ok : goal.returns-in-Ok-clause-ok
 returns-in-Ok-clause-ok g c =
     let old = c.args.trees.now in
-    let new = c.apply.new.trees in
+    let new = c.answer.new.trees in
     let before = c.args.self.now in
     let frame = c.args.frame in
     let start = c.len.result - frame.count in
@@ -43,7 +43,7 @@ returns-in-Ok-clause-ok g c =
     let mid = c.take_answer.new.self in
     let at : start ≡ length before.operands.items - frame.count = omega (arith, c.len.ensures, before.operands.ok.0) in
     let own : take (length seen - start) (drop start seen) ≡ last_operands before frame = take_rest seen start ∙ ap (drop start) c.deref.ensures.value ∙ ap (λ i. drop i before.operands.items) at in
-    let gives = subst (λ ops. IsAnswer c.apply.new.trees (outcome_by (tree_at old frame.code.0) (trees_at old ops) before.left) answer) own c.in-Ok.ensures.gives in
+    let gives = subst (λ ops. IsAnswer c.answer.new.trees (outcome_by (tree_at old frame.code.0) (trees_at old ops) before.left) answer) own c.in-Ok.ensures.gives in
     let takes = subst (λ i. TakesAnswer i answer before mid) at c.take_answer.ensures in
     let room = answer_room old new before mid frame answer c.requires.opened c.in-Ok.ensures.grows c.in-Ok.ensures.few c.in-Ok.ensures.within gives takes in
     let same = answer_same old new before mid frame answer c.requires.opened c.in-Ok.ensures.grows c.in-Ok.ensures.few c.in-Ok.ensures.within gives takes c.requires.ready c.requires.other in
@@ -52,7 +52,7 @@ returns-in-Ok-clause-ok g c =
 pub returns-in-Err-clause-fault : goal.returns-in-Err-clause-fault
 returns-in-Err-clause-fault g c =
     let old = c.args.trees.now in
-    let new = c.apply.new.trees in
+    let new = c.answer.new.trees in
     let before = c.args.self.now in
     let frame = c.args.frame in
     let start = c.len.result - frame.count in
