@@ -51,9 +51,9 @@ class Player:
         record = self.pool.chain.records.get(id)
         if record is None:
             return 'coin none'
-        coin = record.coin
-        spent = '-' if record.spent is None else record.spent
-        return 'coin %s %s %d %d %d %s' % (coin.parent.hex(), coin.puzzle_hash.hex(), coin.amount, record.height, record.seconds, spent)
+        coin, spent = record.coin, '-' if record.spent is None else record.spent
+        return 'coin %s %s %d %d %d %s' % (coin.parent.hex(), coin.puzzle_hash.hex(), coin.amount, record.height, record.seconds,
+                                           spent)
 
     def list(self):
         return ' '.join(['pool %d' % len(self.pool.items), *[it.id.hex() for it in self.pool.items]])

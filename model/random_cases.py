@@ -2,7 +2,7 @@
 from evaluation import FULL, Failed, run
 from operators import CODE_OF, ROWS, Spent, Wide
 from random_modules import module_text
-from random_sessions import session_input
+from random_sessions import condition_input, judging_input, line_input, pool_input, session_input, singleton_input
 from random_trees import (as_input, as_word, deep_tree, some_atom, some_bytes, some_number, some_tree, spelled_tree,
                           spelled_wrong)
 from trees import NIL, proper_list, shortest, spelling
@@ -298,6 +298,11 @@ def replay_case(rng):
     return words, session_input(rng, is_replay=True), {}
 
 
+def about(word, given):
+    """Cases of one command whose input is made so."""
+    return lambda rng: ([word], given(rng), {})
+
+
 def make_case(rng):
     words = []
     for name, most in ('seed', 2 ** 64 - 1), ('commands', 30), ('lanes', 16):
@@ -316,4 +321,6 @@ def alone(case):
 
 BUILT = ('hash', 'eval', 'curry')          # the commands that the program has
 CASES = {'hash': alone(hash_case), 'eval': alone(eval_case), 'curry': alone(curry_case), 'compile': compile_case,
-         'session': session_case, 'replay': replay_case, 'make': make_case}
+         'session': session_case, 'replay': replay_case, 'make': make_case, 'lines': about('session', line_input),
+         'conditions': about('session', condition_input), 'judging': about('replay', judging_input),
+         'singletons': about('session', singleton_input), 'pools': about('session', pool_input)}

@@ -22,8 +22,8 @@ MACROS = (
     '(defmacro {0} (A) (c (c A A) (c A (c A A))))',
 )
 WRONG_WORDS = ('0x5', '0x', '12x', '-3y', '170141183460469231731687303715884105728', '"open', '.', ')', '(', '(1 . 2 3)', '( . 1)',
-               '(1 .)', '\x01', 'é', '(foo 1)', 'nothing', '(if 1 2)', '(unquote 1)', '((+ 1) 2)', '(+ . 1)', '(q)', '(qq)', '(qq 1 2)',
-               '(quote)', '(quote 1 2)', '(1 2)', '(mod (X) X)', '(include a.clib)', '(qq (unquote))', '(qq (1 unquote 2))', '(x)',
+               '(1 .)', '\x01', 'é', '(foo 1)', 'nothing', '(if 1 2)', '(unquote 1)', '((+ 1) 2)', '(+ . 1)', '(q)', '(qq)',
+               '(qq 1 2)', '(quote)', '(quote 1 2)', '(1 2)', '(mod (X) X)', '(include a.clib)', '(qq (unquote))', '(qq (1 unquote 2))', '(x)',
                '(a)', '(a (q . 1))', '(f 1)',
                '(list . 1)', 'mod', 'f', 'q', '(defun)', '(qq (unquote (unquote 1)))')
 
@@ -159,7 +159,8 @@ class Writer:
             return self.in_list('include', rng.choice(LIBRARIES if rng.random() < 0.8 else others))
         if kind < 0.43 and rng.random() < 0.2:
             return rng.choice(('(defun)', '(defun f (X) X)', '5', '()', '(defmacro m 5 5)', '(defun-inline x1 (A A) A)',
-                               '(defconstant 5 5)', '(defun q1 (X . 5) X)', '(include)', '(include (a))', '(foo)', '(defun k2 (X) X . 5)'))
+                               '(defconstant 5 5)', '(defun q1 (X . 5) X)', '(include)', '(include (a))', '(foo)',
+                               '(defun k2 (X) X . 5)'))
         is_inline = kind > 0.7
         name = self.name('in' if is_inline else 'fn')
         words, names, count = self.params()

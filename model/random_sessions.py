@@ -4,12 +4,13 @@ A session is made along its own course: its commands are played on the model whi
 the peak and conditions often hold.
 """
 import json
+import re
 
 from blocks import block_bytes
 from chain import Block, Bundle, Coin, Spend
 from conditions import ROWS, SIGNED, other_side
 from currying import curried
-from judging import BrokenSpend, facts_of, signed_message
+from judging import BYTE_COST, EMPTY_GENERATOR, BrokenSpend, facts_of, signed_message
 from playing import Player
 from random_modules import module_text
 from random_trees import as_word, some_atom, some_tree, spelled_wrong
@@ -19,21 +20,31 @@ from trees import NIL, number, proper_list, sha256, shortest, spelling, tree_has
 OWN = b'\x01'                                                     # the solution is the list of conditions
 INNER = (b'\x02', (b'\x05', (b'\x2f', NIL)))                       # runs its second argument on its solution's third element
 FAILING, WIDE_PUZZLE = (b'\x08', NIL), (b'\x10', ((b'\x01', b'\x01' * 17), NIL))
-SINGLETON = tree_hash(INNER)
+OWN_HASH, SINGLETON = tree_hash(OWN), tree_hash(INNER)
 STRUCT = (SINGLETON, (b'\x33' * 32, b'\x44' * 32))
 TOP = curried(INNER, [STRUCT, OWN])
 KEYS = [bytes([it]) * 48 for it in (0, 1, 255)]
 AMOUNTS = (0, 1, 1, 3, 127, 128, 255, 1000, 1000, 1001, 65_535, 1_000_000, 20_000_000, 30_000_001, 2 ** 40, 2 ** 63,
            2 ** 64 - 1)
 COMMANDS = ('admit',) * 8 + ('farm', 'farm', 'assemble', 'block', 'block', 'rollback', 'coin', 'list', 'peak')
+FEES = (100, 9_999_999, 10_000_000, 10_000_100, 19_999_999, 20_000_000)
+LARGE_AMOUNTS = (20_000_000, 30_000_001, 45_000_000, 2 ** 40)
+UNKNOWN_CODES = (b'', b'\0', b'\x02', b'\x33\0', b'\0\x33', b'\x5a', b'\x4d', b'\xff', (b'\x33', NIL))
+HASHES = (b'\x11' * 31, b'\x11' * 33, b'', (b'\x11' * 32, NIL))
+BORDERS = {'hash': HASHES, 'key': (b'\0' * 47, b'\0' * 49, (NIL, NIL)), 'text': (b'x' * 1024, b'x' * 1025, (NIL, NIL)),
+           'amount': (b'\0', b'\0\x01', b'\xff', b'\0' + b'\xff' * 8, b'\x01' + b'\0' * 8, b'\x80', b'\0' * 8 + b'\x01',
+                      (NIL, NIL)),
+           'moment': (b'\0', b'\0\x01', b'\xff\xff', b'\x7f' + b'\xff' * 15, b'\x80' + b'\0' * 15, b'\0\x80' + b'\0' * 14,
+                      b'\x01' + b'\0' * 16, b'\x80', (NIL, NIL)),
+           'mode': (b'\x40', b'\xff', b'\0', b'\0\x01', b'\x3f', NIL, (NIL, NIL))}
 LINE_FAULTS = (0, 0, 0, 0, 0.01, 0.05)
 
 
 class Course:
     """A session as it goes on: its lines, its coins and its player."""
 
-    def __init__(self, rng, is_replay=False):
-        self.rng, self.is_replay = rng, is_replay
+    def __init__(self, rng, is_replay=False, about=None):
+        self.rng, self.is_replay, self.about = rng, is_replay, about
         self.lines, self.hex_chance = [], rng.choice((0, 0.2))
         self.puzzles = [OWN, OWN, (b'\x01', NIL), TOP, TOP, FAILING, WIDE_PUZZLE, (b'\x01', some_tree(rng, 3)),
                         curried(OWN, [some_atom(rng)])]
@@ -41,8 +52,11 @@ class Course:
         self.bundles = []
         self.header()
         self.singleton, self.proof_parents = bytes(32), {}
-        if not is_replay:
+        if not is_replay and (not about or rng.random() < 0.1):
             self.module_lines()
+        if not is_replay and rng.random() < (0.95 if about == 'singletons' else 0.6):
+            self.singleton = SINGLETON
+            self.lines.append({'singleton': self.hex(SINGLETON)})
         self.coins = self.coin_lines()
         session = Session()
         session.header, session.singleton = self.head, self.singleton
@@ -80,18 +94,15 @@ class Course:
             else:
                 self.lines.append({'module': 'm%d' % at, 'curry': self.code(some_tree(rng, 5)),
                                    'arguments': [self.code(some_tree(rng, 3)) for _ in range(rng.randrange(0, 3))]})
-        if rng.random() < 0.6:
-            self.singleton = SINGLETON
-            self.lines.append({'singleton': self.hex(SINGLETON)})
 
     def coin_line(self, coin):
         return {'parent_coin_info': self.hex(coin.parent), 'puzzle_hash': self.hex(coin.puzzle_hash), 'amount': coin.amount}
 
     def coin_lines(self):
         rng, coins = self.rng, []
-        for _ in range(rng.randrange(0, 9)):
-            puzzle = rng.choice(self.puzzles)
-            if rng.random() < 0.35:
+        for _ in range(rng.randrange(2 if self.about else 0, 9)):
+            puzzle = OWN if self.about and rng.random() < 0.9 else rng.choice(self.puzzles)
+            if rng.random() < {'singletons': 0.6, 'pools': 0.1}.get(self.about, 0.35):
                 parent = Coin(rng.randbytes(32), tree_hash(TOP), rng.choice((1, 3, 3, 4)))
                 coins.append(Coin(parent.id, tree_hash(TOP), rng.choice((1, 1, 1, 3))))
                 self.proof_parents[coins[-1].id] = parent
@@ -99,7 +110,8 @@ class Course:
                     coins.append(parent)
             else:
                 hashed = tree_hash(puzzle) if rng.random() < 0.95 else rng.randbytes(32)
-                coins.append(Coin(rng.choice((bytes(32), rng.randbytes(32))), hashed, rng.choice(AMOUNTS)))
+                amounts = LARGE_AMOUNTS if self.about and rng.random() < 0.6 else AMOUNTS
+                coins.append(Coin(rng.choice((bytes(32), rng.randbytes(32))), hashed, rng.choice(amounts)))
         if rng.random() < 0.97:
             coins = list({it.id: it for it in coins}.values())
         self.lines += [{'coin': self.coin_line(it)} for it in coins]
@@ -167,13 +179,16 @@ class Course:
         return [proper_list(words, NIL if rng.random() < 0.97 else b'x')]
 
     def conditions(self, coin):
-        rng, left, found = self.rng, coin.amount, []
+        rng, left, found, amounts = self.rng, coin.amount, [], set()
         for _ in range(rng.choice((0, 1, 1, 1, 2, 3))):
-            amount = rng.choice((left, max(0, left - 100), left // 2, 1, max(0, left - 10_000_100)))
-            amount = min(amount, left) if rng.random() < 0.97 else left + 1
+            amount = rng.choice((left, max(0, left - 100), left // 2, 1, *[max(0, left - fee) for fee in FEES]))
+            amount = min(amount, left) if rng.random() < 0.98 else left + 1
+            if amount in amounts and rng.random() < 0.95:
+                continue
+            amounts.add(amount)
             left -= min(amount, left)
-            found.append(proper_list([b'\x33', tree_hash(rng.choice(self.puzzles)), shortest(amount)]))
-        for _ in range(rng.choice((0, 0, 0, 1, 1, 2))):
+            found.append(proper_list([b'\x33', OWN_HASH if self.about else rng.choice(list(self.known)), shortest(amount)]))
+        for _ in range(rng.choice((0, 0, 0, 1, 1, 2)) if not self.about or rng.random() < 0.3 else 0):
             found += self.condition(coin)
         rng.shuffle(found)
         return proper_list(found, NIL if rng.random() < 0.99 else b'\x01')
@@ -190,19 +205,38 @@ class Course:
             if rng.random() < 0.3:
                 inner += self.condition(coin)
             proof = [parent.parent, tree_hash(OWN), shortest(parent.amount)]
-            parts = [proper_list(proof), shortest(coin.amount), proper_list(inner)]
-            if rng.random() < 0.05:
-                parts[rng.randrange(3)] = some_atom(rng)
-            return Spend(coin, puzzle, proper_list(parts))
+            return Spend(coin, puzzle, self.singleton_solution(coin, proof, inner))
         return Spend(coin, puzzle, self.conditions(coin))
+
+    def singleton_solution(self, coin, proof, inner):
+        """Proof, amount and inner solution; now and then one check of the forward shape is broken."""
+        rng, amount, end = self.rng, shortest(coin.amount), NIL
+        chance = rng.random()
+        if chance < 0.05:
+            at = rng.randrange(3)
+            proof[at] = rng.choice((b'\x02', b'\0\x01', b'\x11' * 32, b'\x11' * 31, (NIL, NIL), NIL))
+        elif chance < 0.07:
+            proof = proof[:2] if rng.random() < 0.5 else [*proof, NIL]
+        elif chance < 0.09:
+            amount = rng.choice((b'\x02', b'\0\x01', NIL, (NIL, NIL)))
+        elif chance < 0.12:
+            amounts = rng.choice(((1, 1), (1, 2), (3, 2), (2, 2)))
+            inner = [proper_list([b'\x33', rng.choice(list(self.known)), shortest(it)]) for it in amounts]
+        elif chance < 0.14:
+            end = b'\x01'
+        elif chance < 0.16:
+            inner = inner[1:]
+        parts = [proper_list(proof), amount, proper_list(inner)]
+        return proper_list(parts + [NIL] * (rng.random() < 0.02), end)
 
     def bundle(self):
         rng, chain = self.rng, self.player.pool.chain
         if self.bundles and rng.random() < 0.12:
             return rng.choice(self.bundles)
         unspent = chain.unspent() if rng.random() < 0.9 else [it.coin for it in chain.records.values()]
+        unspent = [it for it in unspent if it.puzzle_hash in self.known or rng.random() < 0.1]
         spends = []
-        for _ in range(rng.choice((0, 1, 1, 1, 2, 2, 3)) if rng.random() < 0.97 else 0):
+        for _ in range(rng.choice((1, 1, 1, 2, 2, 3)) if rng.random() < 0.95 else 0):
             if unspent:
                 spends.append(self.spend(rng.choice(unspent)))
             if spends and rng.random() < 0.15:
@@ -211,6 +245,8 @@ class Course:
                     spends.append(self.spend(rng.choice(created)))
         if spends and rng.random() < 0.9:
             spends = list({it.coin.id: it for it in spends}.values())
+        if rng.random() < 0.2:
+            rng.shuffle(spends)
         if self.bundles and rng.random() < 0.25:
             spends += [it for it in rng.choice(self.bundles).spends if it.coin.id not in {one.coin.id for one in spends}][:1]
         if self.coins and rng.random() < 0.03:
@@ -284,8 +320,8 @@ class Course:
             return kind, [id], {'id': self.hex(id)}
         return kind, [], {}
 
-    def play(self):
-        for _ in range(self.rng.choice((0, 1, 3, 6, 10))):
+    def play(self, commands):
+        for _ in range(commands):
             do, members, line = self.command()
             self.player.reply(Command(do, 0, members))
             whole = {'do': do}
@@ -323,8 +359,8 @@ def spoiled_value(rng, value):
 def spoiled_text(rng, text):
     at = rng.randrange(len(text) + 1)
     more = rng.choice('{}[]",:x0-. \\\x01\xe9')
-    return rng.choice((text[:at], text[:at] + text[at + 1:], text[:at] + more + text[at:], text + 'x', '[' + text + ']', '1', '"text"',
-                       'null', '{}', '[' * 126 + ']' * 126, '{"do":' + '[' * 127 + ']' * 127 + '}',
+    return rng.choice((text[:at], text[:at] + text[at + 1:], text[:at] + more + text[at:], text + 'x', '[' + text + ']', '1',
+                       '"text"', 'null', '{}', '[' * 126 + ']' * 126, '{"do":' + '[' * 127 + ']' * 127 + '}',
                        '{"do":' + '[' * 126 + ']' * 126 + '}', text.replace(':1', ':1.0', 1),
                        text.replace(':', ':1e999,"more":', 1), '{"more":"\\ud800"}', '{"do":"peak","do":"list"}', 'NaN',
                        '{"do":01}', '\ufeff' + text))
@@ -367,12 +403,107 @@ def payment_session(rng):
     return ''.join(json.dumps(it, separators=(',', ':')) + '\n' for it in lines).encode()
 
 
+def lines_of(course):
+    return ''.join(json.dumps(it, separators=(',', ':')) + '\n' for it in course.lines).encode()
+
+
+def line_input(rng):
+    """A short session with one line near a good one."""
+    course = Course(rng)
+    for _ in range(rng.randrange(0, 3)):
+        do, members, line = course.command()
+        course.player.reply(Command(do, 0, members))
+        course.lines.append({'do': do} | line)
+    lines = course.lines[:1] + [it for it in course.lines[1:] if rng.random() < 0.5]
+    at = rng.randrange(len(lines))
+    texts = [json.dumps(it, separators=(',', ':')) for it in lines]
+    chance = rng.random()
+    if chance < 0.6:
+        texts[at] = json.dumps(spoiled_value(rng, lines[at]), separators=(',', ':'))
+    elif chance < 0.8:
+        found = rng.choice(list(re.finditer(r'"(\w+)":', texts[at])))
+        again = '"%s":%s' % (found[1], json.dumps(rng.choice(VALUES)))
+        if rng.random() < 0.5:
+            texts[at] = texts[at][:found.start()] + again + ',' + texts[at][found.start():]
+        else:
+            texts[at] = texts[at][:-1] + ',' + again + '}'
+    elif chance < 0.9:
+        texts[at] = spoiled_text(rng, texts[at])
+    else:
+        texts.insert(rng.randrange(len(texts) + 1), texts[at])
+    return '\n'.join(texts).encode('utf-8', 'surrogatepass')
+
+
+def condition_input(rng):
+    """Some admits of one coin each whose conditions are good, or broken at one operand, code or end."""
+    course = Course(rng)
+    course.lines = [it for it in course.lines if 'session' in it]
+    course.coins = [Coin(bytes([at]) * 32, tree_hash(OWN), rng.choice(AMOUNTS)) for at in range(rng.randrange(1, 6))]
+    course.lines += [{'coin': course.coin_line(it)} for it in course.coins]
+    for coin in course.coins:
+        found = [it for _ in range(rng.choice((1, 1, 2))) for it in course.condition(coin)]
+        if rng.random() < 0.6:
+            at = rng.randrange(len(found))
+            name, code, kinds = rng.choice(ROWS)
+            words = [shortest(code)] + [course.operand(it, code, coin) for it in kinds if it != 'parts']
+            if kinds and rng.random() < 0.8:
+                place = rng.randrange(len(words) - 1)
+                words[1 + place] = rng.choice(BORDERS[kinds[place]])
+            elif rng.random() < 0.5:
+                words = words[:rng.randrange(1, len(words) + 1)]
+            else:
+                words[0] = rng.choice(UNKNOWN_CODES)
+            found[at] = proper_list(words, NIL if rng.random() < 0.9 else b'x')
+        if rng.random() < 0.1:
+            found.append(some_tree(rng, 2))
+        solution = proper_list(found, NIL if rng.random() < 0.95 else rng.choice((b'x', b'\0')))
+        spends = [Spend(coin, OWN, solution)]
+        course.lines.append({'do': 'admit', 'bundle': course.bundle_json(Bundle(spends, course.pairs_for(spends)))})
+    return lines_of(course)
+
+
+def judging_input(rng):
+    """A replay of one block, whose limit may be the cost that just suffices, or one less."""
+    course = Course(rng, is_replay=True)
+    bundle, chain = course.bundle(), course.player.pool.chain
+    cost = BYTE_COST * EMPTY_GENERATOR
+    costs = []
+    for spend in bundle.spends:
+        try:
+            facts = facts_of(spend, 22_000_000_000)
+        except BrokenSpend:
+            break
+        cost += facts.run_cost + BYTE_COST * facts.bytes
+        costs.append(cost)
+    if costs and rng.random() < 0.4:
+        limit = max(1_000_000, rng.choice(costs) - rng.choice((0, 1)))
+        course.lines[0]['max_cost'] = limit
+    block = Block(chain.peak.hash, 1, min(chain.peak.seconds + rng.choice((1, 100)), 2 ** 64 - 1), b'\x22' * 32, bundle.spends,
+                  bundle.attested)
+    course.lines.append({'do': 'block', 'bytes': block_bytes(block).hex()})
+    return lines_of(course)
+
+
+def singleton_input(rng):
+    """A session in which most coins are singletons, several of one puzzle hash, with fee coins beside them."""
+    course = Course(rng, about='singletons')
+    course.play(rng.choice((3, 6, 10, 14)))
+    return lines_of(course)
+
+
+def pool_input(rng):
+    """A session of many admits, some of which conflict, with a small pool now and then."""
+    course = Course(rng, about='pools')
+    course.play(rng.choice((6, 12, 20)))
+    return lines_of(course)
+
+
 def session_input(rng, is_replay=False):
     """The bytes of an input."""
     if not is_replay and rng.random() < 0.1:
         return payment_session(rng)
     course = Course(rng, is_replay)
-    course.play()
+    course.play(rng.choice((0, 1, 3, 6, 10)))
     faults = rng.choice(LINE_FAULTS)
     lines = [as_line(rng, it, faults) for it in course.lines]
     if rng.random() < 0.02 and len(lines) > 1:

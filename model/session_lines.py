@@ -5,7 +5,8 @@ from chain import Bundle, Coin, Spend
 from currying import curried
 from json_lines import Members, NotJson, is_whole, value_of
 from modules import ModuleFault, module
-from trees import NIL, SpellingFault, read_whole, spelled_size, tree_hash
+from small_code import small_code
+from trees import SpellingFault, read_whole, spelled_size, tree_hash
 from words import MOST_SPELLED, decoded
 
 MOST_MODULES, MOST_COINS, MOST_COMMANDS = 256, 1_000_000, 1_000_000
@@ -205,7 +206,7 @@ def module_line(session, line, library, given):
             raise LineFault('module %s %d %d' % (fault.kind, *fault.place)) from None
         if found.bound > MOST_WRITTEN:
             raise LineFault('too-large')
-        tree = given.get(called, NIL)
+        tree = given[called] if called in given else small_code(found)
     else:
         found = None
         tree = curried(member(session, line, 'curry', code), member(session, line, 'arguments', codes))
@@ -293,7 +294,7 @@ def kind_of(line, before, is_replay):
 
 # The first line with a fault is told. Of a replay's lines only those of session, coins and blocks are in order.
 def session_of(given, library=lambda name: None, codes=(), is_replay=False):
-    """The session; `codes` are those that a compiler made of its modules, by name."""
+    """The session; `codes` are those that a compiler made of its modules, by name; for others the model makes one."""
     session, before = Session(), None
     lines = numbered_lines(given)
     if not lines:

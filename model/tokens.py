@@ -8,7 +8,7 @@ MOST_OPEN = 1_024          # lists inside each other
 
 
 class ReadFault(Exception):
-    """The first fault of a text: `end`, `close`, `dot`, `hex`, `number`, `text`, `byte` or `deep`; in CLVM text `name`, `left` too."""
+    """A text's first fault: `end`, `close`, `dot`, `hex`, `number`, `text`, `byte`, `deep`; of CLVM text also `name`, `left`."""
 
     def __init__(self, kind, place):
         super().__init__(kind, place)

@@ -1,7 +1,7 @@
 -- How a form is opened, and how its operator ends it.
 use Rattle.std.proofs.Common.{◌≡◌, ℕ, suc, ◌+◌, ◌-◌, ◌<◌, ◌≤◌, true, false, List, [], ◌∷◌, ◌++◌, length, get_or, take, drop, Option, Some, None, refl, sym, ◌∙◌, ap, ap₂, subst, arith, append_assoc}
-use Rattle.std.specs.Prelude.{Result, Ok, Err, option_map}
-use Rattle.std.proofs.lemmas.List.{append-nil, map-append, length-append, length-map, length-take-le, length-drop, drop_at, take_all, take-append-le, take-take, drop_more, drop_all}
+use Rattle.std.specs.Prelude.{Result, Ok, Err, option_map, vec_len}
+use Rattle.std.proofs.lemmas.List.{append-nil, map-append, length-append, length-map, length-take-le, length-drop, take_rest, drop_at, take_all, take-append-le, take-take, drop_more, drop_all}
 use Rattle.clvm_spec.specs.declared.fuel.Fuel.{Fuel}
 use Rattle.clvm_spec.specs.declared.fuel.Which.TheVariants.{Cost, Depth}
 use Rattle.clvm_spec.specs.declared.costs.TheConstants.{FORM_COST, APPLY_COST}
@@ -232,6 +232,22 @@ goes_on_below trees frames operands count whole =
     (waiting_forms-same trees 0 frames (take (length operands - count) operands) operands (take-take (operand_count frames) (length operands - count) operands (omega arith)))
 
 -- ---- an operator
+
+-- the operands of the open form, as they are handed over
+pub operands_seen : (before : State) (frame : Frame) (seen : List Node) (len : ℕ) → len ≡ vec_len before.operands → seen ≡ before.operands.items →
+    take (length seen - (len - frame.count)) (drop (len - frame.count) seen) ≡ last_operands before frame
+operands_seen before frame seen len long is =
+    let at : len - frame.count ≡ length before.operands.items - frame.count = omega (arith, before.operands.ok.0) in
+    take_rest seen (len - frame.count) ∙ ap₂ drop at is
+
+pub answer_taken : (before after : State) (frame : Frame) (answer : Answer) (len : ℕ) → len ≡ vec_len before.operands → TakesAnswer (len - frame.count) answer before after →
+    TakesAnswer (length before.operands.items - frame.count) answer before after
+answer_taken before after frame answer len long takes =
+    let at : len - frame.count ≡ length before.operands.items - frame.count = omega (arith, before.operands.ok.0) in
+    subst (λ i. TakesAnswer i answer before after) at takes
+
+pub start_of_two : (trees : List Tree) (before : State) (frame : Frame) (len : ℕ) → IsOpen trees before frame → frame.count ≡ 2 → len ≡ vec_len before.operands → len - 2 + 2 ≡ length before.operands.items
+start_of_two trees before frame len opened two long = let whole = opened.state.whole in omega (arith, before.operands.ok.0)
 
 -- All operands have values.
 pub ready : (trees : List Tree) (before : State) (frame : Frame) → frame.programs ≡ 0 →

@@ -1,6 +1,6 @@
 -- How open forms keep their meaning while trees are added, and what becomes of them when a value is given.
 use Rattle.std.proofs.Common.{◌≡◌, ℕ, zero, suc, ◌+◌, ◌-◌, ◌<◌, ◌≤◌, List, [], ◌∷◌, ◌++◌, length, get_or, set, take, drop, refl, sym, ◌∙◌, ap, ap₂, subst, arith}
-use Rattle.std.specs.Prelude.{Result, Ok, Err}
+use Rattle.std.specs.Prelude.{Result, Ok, Err, vec_len}
 use Rattle.std.proofs.lemmas.List.{map-append, length-append, length-set, length-drop, take_all, take-take, drop-take, drop-drop, take_more, take-set, drop-set, take-set-le, drop-set-add, get_or-drop}
 use Rattle.clvm_spec.specs.declared.fuel.Fuel.{Fuel}
 use Rattle.clvm_spec.specs.Tree.{Tree}
@@ -266,20 +266,38 @@ value_given trees before after frame value place there is at given left =
 
 -- ---- an operand is evaluated, in the state
 
-module _ (trees : List Tree) (before : State) (frame : Frame) (rest place : ℕ) (program : Node) (opened : IsOpen trees before frame) (some : frame.programs ≡ rest + 1) (at : place ≡ length before.operands.items - frame.count + rest) (is : program ≡ get_or before.operands.items place program) where
+-- The program is the last operand of the open form that isn't evaluated, and the others are so many.
+pub record IsLastProgram (trees : List Tree) (before : State) (frame : Frame) (rest place : ℕ) (program : Node) : Type 0 where
+  pub opened : IsOpen trees before frame
+  pub some : frame.programs ≡ rest + 1
+  pub at : place ≡ length before.operands.items - frame.count + rest
+  pub is : program ≡ get_or before.operands.items place program
+
+pub last_program : (trees : List Tree) (before : State) (frame : Frame) (len : ℕ) (program : Node) → IsOpen trees before frame → 0 < frame.programs → len ≡ vec_len before.operands →
+    program ≡ get_or before.operands.items (len - frame.count + (frame.programs - 1)) program → IsLastProgram trees before frame (frame.programs - 1) (len - frame.count + (frame.programs - 1)) program
+last_program trees before frame len program opened some long is = record {
+  opened = opened;
+  some = omega arith;
+  at = omega (arith, before.operands.ok.0);
+  is = is;
+}
+
+module _ (trees : List Tree) (before : State) (frame : Frame) (rest place : ℕ) (program : Node) (last : IsLastProgram trees before frame rest place program) where
   pub place_within : place < length before.operands.items
   place_within =
-      let whole = opened.state.whole in
-      let within = opened.within in
+      let whole = last.opened.state.whole in
+      let within = last.opened.within in
+      let at = last.at in
+      let some = last.some in
       omega arith
 
   pub program_known : IsKnown trees program.0
-  program_known = subst (λ (n : Node). IsKnown trees n.0) (sym is) (AreKnown-at trees before.operands.items place program opened.state.operands place_within)
+  program_known = subst (λ (n : Node). IsKnown trees n.0) (sym last.is) (AreKnown-at trees before.operands.items place program last.opened.state.operands place_within)
 
   pub operand_same : outcome_of trees before (step.Open frame)
       ≡ if_done (evaluation (tree_at trees program.0) (tree_at trees frame.env.0) (suc (length before.frames.items)) before.left)
       (λ value after. if_done (form_outcome (with_value (waiting_form trees (length before.frames.items) (without_last frame rest) (drop (length before.operands.items - frame.count) before.operands.items)) value) after) (goes_from trees before.frames.items before.operands.items))
-  operand_same = operand_first trees before.frames.items frame before.operands.items program rest place before.left opened.state.whole opened.within some at is
+  operand_same = operand_first trees before.frames.items frame before.operands.items program rest place before.left last.opened.state.whole last.opened.within last.some last.at last.is
 
   pub operand_valued : (after : State) (value : Node) → IsValueOf trees program.0 frame.env.0 before.left after.left value.0 → after.frames.items ≡ before.frames.items → after.operands.items ≡ set before.operands.items place value →
       Advances trees trees before after (outcome_of trees before (step.Open frame)) (step.Open (without_last frame rest))
@@ -290,20 +308,21 @@ module _ (trees : List Tree) (before : State) (frame : Frame) (rest place : ℕ)
       let pairs : after.left.pairs ≡ before.left.pairs = ap (λ (l : Fuel). l.pairs) left in
       let bytes : after.left.bytes ≡ before.left.bytes = ap (λ (l : Fuel). l.bytes) left in
       let more = valued.some in
-      let whole = opened.state.whole in
-      let room = opened.state.room in
-      let within = opened.within in
+      let whole = last.opened.state.whole in
+      let room = last.opened.state.room in
+      let within = last.opened.within in
+      let some = last.some in
       let long = length-set before.operands.items place value in
       let e = ap length given in
       let count : operand_count after.frames.items ≡ operand_count before.frames.items = ap operand_count frames in
       let sound : IsOpen trees after (without_last frame rest) = record {
         state = record {
-          frames = subst (λ fs. AreWaiting trees fs) (sym frames) opened.state.frames;
-          operands = subst (AreKnown trees) (sym given) (AreKnown-set trees before.operands.items place value opened.state.operands valued.known);
+          frames = subst (λ fs. AreWaiting trees fs) (sym frames) last.opened.state.frames;
+          operands = subst (AreKnown trees) (sym given) (AreKnown-set trees before.operands.items place value last.opened.state.operands valued.known);
           whole = omega arith;
           room = omega arith;
         };
-        sound = record { code = opened.sound.code; form = opened.sound.form; env = opened.sound.env; few = opened.sound.few };
+        sound = record { code = last.opened.sound.code; form = last.opened.sound.form; env = last.opened.sound.env; few = last.opened.sound.few };
         within = omega arith;
       } in
       record {
@@ -312,7 +331,7 @@ module _ (trees : List Tree) (before : State) (frame : Frame) (rest place : ℕ)
         cheaper = omega arith;
         same =
             ap (λ fs. comes_to trees fs after.operands.items (without_last frame rest) after.left) frames
-            ∙ operand_done trees before.frames.items frame before.operands.items program rest place before.left opened.state.whole opened.within some at is value after.operands.items after.left
+            ∙ operand_done trees before.frames.items frame before.operands.items program rest place before.left last.opened.state.whole last.opened.within last.some last.at last.is value after.operands.items after.left
             (valued.done (suc (length before.frames.items))) given;
       }
 
@@ -320,19 +339,20 @@ module _ (trees : List Tree) (before : State) (frame : Frame) (rest place : ℕ)
   module _ (pushed : State) (frames : pushed.frames.items ≡ before.frames.items ++ without_last frame rest ∷ []) (operands : pushed.operands.items ≡ before.operands.items) (left : pushed.left ≡ before.left) where
     pub pushed_state : IsState trees pushed 0
     pushed_state =
-        let whole = opened.state.whole in
-        let within = opened.within in
-        let room = opened.state.room in
+        let whole = last.opened.state.whole in
+        let within = last.opened.within in
+        let some = last.some in
+        let room = last.opened.state.room in
         let pairs : pushed.left.pairs ≡ before.left.pairs = ap (λ (l : Fuel). l.pairs) left in
         let bytes : pushed.left.bytes ≡ before.left.bytes = ap (λ (l : Fuel). l.bytes) left in
         let e = ap length operands in
         let waits : IsWaiting trees (without_last frame rest) = record {
-          sound = record { code = opened.sound.code; form = opened.sound.form; env = opened.sound.env; few = opened.sound.few };
+          sound = record { code = last.opened.sound.code; form = last.opened.sound.form; env = last.opened.sound.env; few = last.opened.sound.few };
           awaits = omega arith;
         } in
         record {
-          frames = subst (λ fs. AreWaiting trees fs) (sym frames) (AreWaiting-push trees before.frames.items (without_last frame rest) opened.state.frames waits);
-          operands = subst (AreKnown trees) (sym operands) opened.state.operands;
+          frames = subst (λ fs. AreWaiting trees fs) (sym frames) (AreWaiting-push trees before.frames.items (without_last frame rest) last.opened.state.frames waits);
+          operands = subst (AreKnown trees) (sym operands) last.opened.state.operands;
           whole = omega (arith, operand_count-push before.frames.items (without_last frame rest), ap operand_count frames);
           room = omega arith;
         }
@@ -340,7 +360,7 @@ module _ (trees : List Tree) (before : State) (frame : Frame) (rest place : ℕ)
     pub pushed_same : outcome_with trees pushed program.0 frame.env.0 ≡ outcome_of trees before (step.Open frame)
     pushed_same =
         ap₂ (λ left ops. if_done (evaluation (tree_at trees program.0) (tree_at trees frame.env.0) (length pushed.frames.items) left) (goes_from trees pushed.frames.items ops)) left operands
-        ∙ operand_begun trees before.frames.items frame before.operands.items program rest place before.left opened.state.whole opened.within some at is pushed.frames.items frames
+        ∙ operand_begun trees before.frames.items frame before.operands.items program rest place before.left last.opened.state.whole last.opened.within last.some last.at last.is pushed.frames.items frames
 
 -- Of a run that has gone on from a state with the same fuel.
 pub advances_from : (trees : List Tree) (before mid after : State) (whole part : Outcome) (next : Step) → mid.left ≡ before.left → part ≡ whole → Advances trees trees mid after part next → Advances trees trees before after whole next

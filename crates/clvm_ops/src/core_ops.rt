@@ -77,11 +77,7 @@ fn apply_code(
             Err(OpFault::NoOperator)
         };
         ($code:ident, $name:literal, $cost:ident, $operator:ident) => {
-            {
-            let cost = costs::$cost;
-            let application = Application { alloc, operands, cost, left };
-            application.$operator(trees)
-        }
+            Application { alloc, operands, cost: costs::$cost, left }.$operator(trees)
         };
     }
     by_operator!(code, arm, Err(OpFault::NoOperator))

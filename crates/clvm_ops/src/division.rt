@@ -11,7 +11,6 @@ ghost use Rattle.clvm_ops.specs.Answering.{CanApply, Yields, Applies};
 
 use crate::application::Application;
 use crate::arithmetic::remainder_of;
-use crate::give::charged;
 use crate::operands::two_numbers;
 use clvm_spec::{arithmetic, costs, number_length};
 use clvm_tree::{Answer, Node, OpFault, OutOfMemory, Trees, number};
@@ -68,7 +67,7 @@ impl Application<'_> {
     {
         let size = (number_length(first) + number_length(second)) as u128;
         let cost = cost as u128 + costs::RESULT_BYTE_COST as u128 * size;
-        let charge = charged(self.left, cost, 1, size + 2 * costs::ATOM_OVERHEAD as u128)?;
+        let charge = self.charged(cost, 1, size + 2 * costs::ATOM_OVERHEAD as u128)?;
         let pair = pair_of_two(self.alloc, trees, first, second)?;
         Ok(charge.answer(pair))
     }

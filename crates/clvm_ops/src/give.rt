@@ -12,7 +12,7 @@ ghost use Rattle.clvm_ops.specs.Answering.{CanApply, Yields, IsCharged};
 use crate::application::Application;
 use clvm_spec::limits::NUMBER_BYTES;
 use clvm_spec::{costs, number_length};
-use clvm_tree::{Answer, Fuel, Node, OpFault, Trees, Which};
+use clvm_tree::{Answer, Node, OpFault, Trees, Which};
 
 /// What an answer is charged.
 #[derive(Clone, Copy, Debug)]
@@ -35,36 +35,36 @@ impl Charge {
     }
 }
 
-/// The charge where what is left suffices for it, else what is spent.
-pub(crate) fn charged(left: Fuel, cost: u128, pairs: u64, bytes: u128) -> Result<Charge, OpFault>
-    ensures ok { IfOk result (IsCharged left cost pairs bytes) }
-    ensures err { IfErr result (λ fault. (trees : List Tree) (value : Tree) →
-        IsOpFault trees (within left (Gives value cost pairs bytes)) fault) }
-{
-    if cost > left.cost as u128 {
-        return Err(OpFault::Spent(Which::Cost));
-    }
-    if pairs > left.pairs {
-        return Err(OpFault::Spent(Which::Pairs));
-    }
-    if bytes > left.bytes as u128 {
-        return Err(OpFault::Spent(Which::Bytes));
-    }
-    Ok(Charge {
-        cost: cost as u64,
-        pairs,
-        bytes: bytes as u64,
-    })
-}
-
 impl Application<'_> {
+    /// The charge where what is left suffices for it, else what is spent.
+    pub(crate) fn charged(&self, cost: u128, pairs: u64, bytes: u128) -> Result<Charge, OpFault>
+        ensures ok { IfOk result (IsCharged self.now.left cost pairs bytes) }
+        ensures err { IfErr result (λ fault. (trees : List Tree) (value : Tree) →
+            IsOpFault trees (within self.now.left (Gives value cost pairs bytes)) fault) }
+    {
+        if cost > self.left.cost as u128 {
+            return Err(OpFault::Spent(Which::Cost));
+        }
+        if pairs > self.left.pairs {
+            return Err(OpFault::Spent(Which::Pairs));
+        }
+        if bytes > self.left.bytes as u128 {
+            return Err(OpFault::Spent(Which::Bytes));
+        }
+        Ok(Charge {
+            cost: cost as u64,
+            pairs,
+            bytes: bytes as u64,
+        })
+    }
+
     /// Answers a node that is there already.
     pub(crate) fn give(&self, trees: &Trees, value: Node, cost: u128) -> Result<Answer, OpFault>
         requires { IsKnown trees.now value.0 }
         ensures { Yields trees.now trees.now self.now (free (tree_at trees.now value.0) cost) result }
     {
         let _ = trees.nil();
-        Ok(charged(self.left, cost, 0, 0)?.answer(value))
+        Ok(self.charged(cost, 0, 0)?.answer(value))
     }
 
     /// Answers the atom 01 or nil.
@@ -93,12 +93,8 @@ impl Application<'_> {
         requires { CanApply trees.old self.now }
         ensures { Yields trees.old trees.new self.now (new_atom cost bytes.now) result }
     {
-        let charge = charged(
-            self.left,
-            cost,
-            0,
-            bytes.len() as u128 + costs::ATOM_OVERHEAD as u128,
-        )?;
+        let size = bytes.len() as u128 + costs::ATOM_OVERHEAD as u128;
+        let charge = self.charged(cost, 0, size)?;
         Ok(charge.answer(trees.atom(self.alloc, bytes)?))
     }
 

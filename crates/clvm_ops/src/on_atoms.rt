@@ -9,7 +9,6 @@ ghost use Rattle.clvm_ops.specs.Answering.{CanApply, Applies};
 ghost use Rattle.clvm_ops.specs.OperandAtoms.{atoms_at};
 
 use crate::application::Application;
-use crate::give::charged;
 use crate::operands::{atom_at, atoms, bytes_of, two_atoms};
 use clvm_spec::costs;
 use clvm_tree::{Answer, Node, OpFault, OutOfMemory, Trees};
@@ -55,7 +54,7 @@ impl Application<'_> {
         let cost = self.cost as u128
             + costs::HASHED_ATOM_COST as u128 * self.operands.len() as u128
             + costs::HASHED_BYTE_COST as u128 * size;
-        let charge = charged(self.left, cost, 0, 32 + costs::ATOM_OVERHEAD as u128)?;
+        let charge = self.charged(cost, 0, 32 + costs::ATOM_OVERHEAD as u128)?;
         let hash = hash_of_all(trees, self.operands);
         Ok(charge.answer(trees.atom(self.alloc, &hash)?))
     }
@@ -68,7 +67,7 @@ impl Application<'_> {
         let cost = self.cost as u128
             + costs::JOINED_ATOM_COST as u128 * self.operands.len() as u128
             + (costs::JOINED_BYTE_COST + costs::RESULT_BYTE_COST) as u128 * size;
-        let charge = charged(self.left, cost, 0, size + costs::ATOM_OVERHEAD as u128)?;
+        let charge = self.charged(cost, 0, size + costs::ATOM_OVERHEAD as u128)?;
         let bytes = all_bytes(self.alloc, trees, self.operands)?;
         Ok(charge.answer(trees.atom(self.alloc, &bytes)?))
     }

@@ -1,6 +1,8 @@
 //! Operators on numbers.
 
-ghost use Rattle.std.specs.Prelude.{◌≡◌, ◌+◌, ◌<◌, ◌^◌, true, length};
+ghost use Rattle.std.specs.Prelude.{◌≡◌, ◌+◌, ◌*◌, ◌<◌, ◌≤◌, ◌^◌, true, length};
+ghost use Rattle.clvm_spec.specs.declared.costs.TheConstants.{TERM_COST, TERM_BYTE_COST};
+ghost use Rattle.clvm_spec.specs.declared.limits.TheConstants.{NUMBER_BYTES};
 ghost use Rattle.clvm_spec.specs.Numbers.{number, is_short};
 ghost use Rattle.clvm_spec.specs.Arithmetic.{complement};
 ghost use Rattle.clvm_spec.specs.Operators.{sum_of, difference_of, product_of, quotient_of, is_greater, greater_flag, complement_of, bits_of, and_of, or_of, xor_of};
@@ -21,11 +23,8 @@ impl Application<'_> {
         ensures { Applies sum_of trees.old trees.new self.now result }
     {
         let size = numbers(trees, self.operands)?;
-        let cost = self.cost as u64
-            + costs::TERM_COST * self.operands.len() as u64
-            + costs::TERM_BYTE_COST * size;
         let sum = plus_others(trees, 0, self.operands);
-        self.give_if_held(trees, sum, cost)
+        self.give_if_held(trees, sum, self.terms_cost(size))
     }
 
     pub(crate) fn difference_of(&self, trees: &mut Trees) -> Result<Answer, OpFault>
@@ -33,11 +32,19 @@ impl Application<'_> {
         ensures { Applies difference_of trees.old trees.new self.now result }
     {
         let size = numbers(trees, self.operands)?;
-        let cost = self.cost as u64
-            + costs::TERM_COST * self.operands.len() as u64
-            + costs::TERM_BYTE_COST * size;
         let difference = difference(trees, self.operands);
-        self.give_if_held(trees, difference, cost)
+        self.give_if_held(trees, difference, self.terms_cost(size))
+    }
+
+    // What a sum or a difference costs whose operands have so many bytes.
+    fn terms_cost(&self, size: u64) -> u64
+        requires few { length self.now.operands.now < 2 ^ 31 }
+        requires size { size ≤ length self.now.operands.now * NUMBER_BYTES }
+        ensures { result ≡ self.now.cost + TERM_COST * length self.now.operands.now + TERM_BYTE_COST * size }
+    {
+        self.cost as u64
+            + costs::TERM_COST * self.operands.len() as u64
+            + costs::TERM_BYTE_COST * size
     }
 
     pub(crate) fn product_of(&self, trees: &mut Trees) -> Result<Answer, OpFault>

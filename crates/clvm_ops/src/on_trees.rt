@@ -8,7 +8,6 @@ ghost use Rattle.clvm_tree.specs.Operators.{trees_at};
 ghost use Rattle.clvm_ops.specs.Answering.{CanApply, Applies};
 
 use crate::application::Application;
-use crate::give::charged;
 use clvm_tree::{Answer, Node, OpFault, OutOfMemory, Sight, Trees};
 use std::alloc::Global;
 
@@ -34,7 +33,7 @@ impl Application<'_> {
         let [first, rest] = self.operands else {
             return Err(OpFault::Count);
         };
-        let charge = charged(self.left, self.cost as u128, 1, 0)?;
+        let charge = self.charged(self.cost as u128, 1, 0)?;
         Ok(charge.answer(trees.pair(self.alloc, *first, *rest)?))
     }
 

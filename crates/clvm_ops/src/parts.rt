@@ -9,7 +9,6 @@ ghost use Rattle.clvm_tree.specs.Operators.{trees_at};
 ghost use Rattle.clvm_ops.specs.Answering.{CanApply, Yields, Applies};
 
 use crate::application::Application;
-use crate::give::charged;
 use crate::operands::{atom_at, bytes_of, number_at};
 use clvm_spec::costs;
 use clvm_tree::{Answer, Node, OpFault, Trees, number};
@@ -78,7 +77,7 @@ impl Application<'_> {
             return Err(OpFault::Operand(1));
         };
         let size = bytes.len() as u128 + costs::ATOM_OVERHEAD as u128;
-        let charge = charged(self.left, self.cost as u128, 0, size)?;
+        let charge = self.charged(self.cost as u128, 0, size)?;
         let copy = Vec::from_slice(self.alloc, bytes)?;
         Ok(charge.answer(trees.atom(self.alloc, &copy)?))
     }

@@ -1,6 +1,5 @@
 mod GrammarRows
 pub mod BoundLaws
-pub mod ListLaws
 pub mod StepLaws
 pub mod ReadLaws
 pub mod PlaceLaws

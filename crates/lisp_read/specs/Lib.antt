@@ -6,5 +6,5 @@ pub mod Copies
 pub mod FormLists
 pub mod Grammar
 pub mod Faults
-pub mod OpenLists
+pub mod Parsing
 pub mod Laws

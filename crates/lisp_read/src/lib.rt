@@ -6,7 +6,6 @@ mod fault;
 mod form;
 mod form_list;
 pub mod laws;
-mod lists;
 mod place;
 mod reader;
 mod shapes;

@@ -1,175 +1,101 @@
 //! Reading: the forms of a text, or its first fault.
 
-ghost use Rattle.std.specs.Prelude.{◌≡◌, ◌∷◌, ◌++◌, [], ◌≤◌, ℕ, List, length, None, IfOk, IfErr};
+ghost use Rattle.std.specs.Prelude.{◌≡◌, ◌≤◌, length, None, IfOk, IfErr};
 ghost use Rattle.clvm_spec.specs.declared.limits.TheConstants.{MOST_SPELLED};
-ghost use Rattle.clvm_spec.specs.Tokens.{Opening, Closing, Point, Took, Unread};
+ghost use Rattle.clvm_spec.specs.Tokens.{Closing};
 ghost use Rattle.text_tokens.specs.Meanings.{meant};
+ghost use Rattle.open_lists.specs.Lists.{whole};
 ghost use Rattle.lisp_read.specs.Views.{form_of};
-ghost use Rattle.clvm_spec.specs.Grammar.{Parses, Breaks};
 ghost use Rattle.lisp_read.specs.Grammar.{Places, Reads, forms_of};
 ghost use Rattle.lisp_read.specs.Faults.{IsReadFault};
-ghost use Rattle.lisp_read.specs.declared.lists.OpenList.{OpenList};
-ghost use Rattle.lisp_read.specs.OpenLists.{IsFirstDot, IsFirstFault, IsBroken, resumed, told, Leads};
+ghost use Rattle.lisp_read.specs.Parsing.{reading, StepLeads, StepStops, IsKnown, answered};
 
-use crate::lists::{OpenList, Reach};
-use crate::{Form, Forms, Place, ReadAt, ReadKind, Word};
-use clvm_spec::limits::MOST_OPEN;
+use crate::{Form, FormBox, Forms, OutOfMemory, Place, ReadAt, ReadKind, Word};
+use open_lists::{Fault, OpenList, OpenLists, Reach, TextForm};
 use std::alloc::Global;
 use text_tokens::{Front, Token, first_token};
 
-// The place of the outermost open dot: of these lists, or else the last, which stands within them.
-fn first_dot(lists: &[OpenList], last: Option<Place>) -> Option<Place>
-    ensures { (inner : List OpenList) → IsFirstDot inner last → IsFirstDot (lists.now ++ inner) result }
-{
-    let mut rest = lists;
-    'lists: while let [list, inner @ ..] = rest {
-        if let Some(dot) = list.dot() {
-            return Some(dot);
-        }
-        rest = inner;
-    }
-    last
-}
+impl TextForm<Place> for Form {
+    ghost unknown = { λ _. None };
 
-// The fault of what is wrong behind the outermost open dot.
-fn fault_behind(dot: Option<Place>, kind: ReadKind, place: Place) -> ReadAt
-    ensures { (there : Places) (lists : List OpenList) → IsFirstDot lists dot → IsFirstFault result (resumed there 0 lists (Breaks kind None place)) }
-{
-    match dot {
-        Some(dot) if kind.is_dots_fault() => ReadAt::At(ReadKind::Dot, dot.at),
-        _ => ReadAt::At(kind, place.at),
+    fn unknown(&self) -> Option<Place> {
+        None
     }
 }
 
-// The fault of what stands in the innermost list.
-fn fault_in(outer: &[OpenList], list: &OpenList, kind: ReadKind, place: Place) -> ReadAt
-    ensures { (there : Places) → IsFirstFault result (resumed there 0 (outer.now ++ list.now ∷ []) (Breaks kind None place)) }
+// The answer to a fault. No symbol is unknown to Chialisp.
+fn answered(fault: Fault<Place>) -> ReadAt
+    requires { IsKnown fault }
+    ensures { result ≡ answered fault }
 {
-    fault_behind(first_dot(outer, list.dot()), kind, place)
-}
-
-// The fault of what is no token, or of the text's end.
-fn fault(mut lists: Vec<OpenList>, kind: ReadKind, place: Place) -> ReadAt
-    ensures { (there : Places) (from : List ℕ) → there from ≡ place → IsFirstFault result (told there 0 lists.items (Unread kind from)) }
-{
-    match lists.pop() {
-        None => ReadAt::At(kind, place.at),
-        Some(list) => match list.reach {
-            // Behind the last form whatever isn't `)` is the dot's fault.
-            Reach::Last(dot, _) => fault_in(lists.as_slice(), &list, ReadKind::Dot, dot),
-            _ => fault_in(lists.as_slice(), &list, kind, place),
-        },
+    match fault {
+        Fault::At(kind, place) => ReadAt::At(kind, place.at),
+        Fault::Unknown(_) => unreachable!(),
+        Fault::OutOfMemory => ReadAt::OutOfMemory,
     }
 }
 
-// A form is the next of the innermost list. Where no list is open it is handed out.
-fn put(
-    alloc: Global,
-    lists: &mut Vec<OpenList>,
-    form: Form,
-    place: Place,
-) -> Result<Option<Form>, ReadAt>
-    ensures leads { IfOk result (λ done. (there : Places) (rest : List ℕ) → Leads there lists.new.items rest done (resumed there 0 lists.old.items (Parses (form_of form) rest))) }
-    ensures stops { IfErr result (λ fault. (there : Places) (rest : List ℕ) → IsBroken fault (resumed there 0 lists.old.items (Parses (form_of form) rest))) }
+// The form of a list that ends.
+fn whole(alloc: Global, list: OpenList<Form, Place>) -> Result<Form, OutOfMemory>
+    ensures { IfOk result (λ form. (there : Places) → form_of form ≡ whole (reading there) list) }
 {
-    match lists.pop() {
-        None => Ok(Some(form)),
-        Some(list) => {
-            if !list.takes_form() {
-                return Err(fault_in(lists.as_slice(), &list, ReadKind::Dot, place));
-            }
-            lists.push(list.with_form(alloc, form)?)?;
-            Ok(None)
-        }
+    let OpenList {
+        place,
+        mut forms,
+        reach,
+    } = list;
+    let mut rest = match reach {
+        Reach::Last(_, form) => form,
+        Reach::Elements => Form::Atom(place, Word::from_vec(Vec::new(alloc))),
+        Reach::Dot(_) => Form::Atom(place, Word::from_vec(Vec::new(alloc))),
+    };
+    'elements: while let Some(first) = forms.pop() {
+        rest = Form::pair(alloc, place, first, rest)?;
     }
-}
-
-// A `(` opens a list within the others.
-fn open(alloc: Global, lists: &mut Vec<OpenList>, place: Place) -> Result<(), ReadAt>
-    ensures leads { IfOk result (λ _. (there : Places) (from rest : List ℕ) → there from ≡ place → Leads there lists.new.items rest None (told there 0 lists.old.items (Took Opening from rest))) }
-    ensures stops { IfErr result (λ fault. (there : Places) (from rest : List ℕ) → there from ≡ place → IsBroken fault (told there 0 lists.old.items (Took Opening from rest))) }
-{
-    let begun = OpenList::new(alloc, place);
-    match lists.pop() {
-        None => {
-            lists.push(begun)?;
-            Ok(())
-        }
-        Some(list) => {
-            if !list.takes_form() {
-                return Err(fault_in(lists.as_slice(), &list, ReadKind::Dot, place));
-            }
-            if lists.len() + 1 >= MOST_OPEN {
-                return Err(fault_in(lists.as_slice(), &list, ReadKind::Deep, place));
-            }
-            lists.push(list)?;
-            lists.push(begun)?;
-            Ok(())
-        }
-    }
-}
-
-// Behind a dot stands the last form of its list.
-fn point(lists: &mut Vec<OpenList>, place: Place) -> Result<(), ReadAt>
-    ensures leads { IfOk result (λ _. (there : Places) (from rest : List ℕ) → there from ≡ place → Leads there lists.new.items rest None (told there 0 lists.old.items (Took Point from rest))) }
-    ensures stops { IfErr result (λ fault. (there : Places) (from rest : List ℕ) → there from ≡ place → IsBroken fault (told there 0 lists.old.items (Took Point from rest))) }
-{
-    match lists.pop() {
-        None => Err(ReadAt::At(ReadKind::Dot, place.at)),
-        Some(list) => {
-            if !list.takes_dot() {
-                return Err(fault_in(lists.as_slice(), &list, ReadKind::Dot, place));
-            }
-            lists.push(list.with_dot(place))?;
-            Ok(())
-        }
-    }
+    Ok(rest)
 }
 
 // A `)` ends the innermost list, which is the next form of the one around it.
-fn close(alloc: Global, lists: &mut Vec<OpenList>, place: Place) -> Result<Option<Form>, ReadAt>
-    ensures leads { IfOk result (λ done. (there : Places) (from rest : List ℕ) → there from ≡ place → Leads there lists.new.items rest done (told there 0 lists.old.items (Took Closing from rest))) }
-    ensures stops { IfErr result (λ fault. (there : Places) (from rest : List ℕ) → there from ≡ place → IsBroken fault (told there 0 lists.old.items (Took Closing from rest))) }
+fn close(
+    alloc: Global,
+    lists: &mut OpenLists<Form, Place>,
+    place: Place,
+) -> Result<Option<Form>, Fault<Place>>
+    ensures leads { IfOk result (StepLeads Closing place lists.old.lists.items lists.new.lists.items) }
+    ensures stops { IfErr result (StepStops Closing place lists.old.lists.items) }
 {
-    match lists.pop() {
-        None => Err(ReadAt::At(ReadKind::Close, place.at)),
-        Some(list) => {
-            if !list.takes_end() {
-                return Err(fault_in(lists.as_slice(), &list, ReadKind::Close, place));
-            }
-            let form = list.whole(alloc)?;
-            put(alloc, lists, form, place)
-        }
-    }
+    let list = lists.close::<FormBox, Place>(place)?;
+    let form = whole(alloc, list)?;
+    lists.put::<FormBox, Place>(form, place)
 }
 
 // What a token leads to: to a form that stands in no list, or on.
 fn step(
     alloc: Global,
-    lists: &mut Vec<OpenList>,
+    lists: &mut OpenLists<Form, Place>,
     token: Token<'_>,
     place: Place,
-) -> Result<Option<Form>, ReadAt>
-    ensures leads { IfOk result (λ done. (there : Places) (from rest : List ℕ) → there from ≡ place → Leads there lists.new.items rest done (told there 0 lists.old.items (Took (meant token.entry) from rest))) }
-    ensures stops { IfErr result (λ fault. (there : Places) (from rest : List ℕ) → there from ≡ place → IsBroken fault (told there 0 lists.old.items (Took (meant token.entry) from rest))) }
+) -> Result<Option<Form>, Fault<Place>>
+    ensures leads { IfOk result (StepLeads (meant token.entry) place lists.old.lists.items lists.new.lists.items) }
+    ensures stops { IfErr result (StepStops (meant token.entry) place lists.old.lists.items) }
 {
     match token {
         Token::Opening => {
-            open(alloc, lists, place)?;
+            lists.open::<FormBox, Place>(alloc, place)?;
             Ok(None)
         }
         Token::Closing => close(alloc, lists, place),
         Token::Point => {
-            point(lists, place)?;
+            lists.point::<FormBox, Place>(place)?;
             Ok(None)
         }
         Token::Literal(literal) => {
             let bytes = Word::from_vec(literal.bytes(alloc)?);
-            put(alloc, lists, Form::Atom(place, bytes), place)
+            lists.put::<FormBox, Place>(Form::Atom(place, bytes), place)
         }
         Token::Symbol(name) => {
             let name = Word::from_slice(alloc, name)?;
-            put(alloc, lists, Form::Symbol(place, name), place)
+            lists.put::<FormBox, Place>(Form::Symbol(place, name), place)
         }
     }
 }
@@ -182,7 +108,7 @@ pub fn forms(alloc: Global, text: &[u8], number: u32) -> Result<Forms, ReadAt>
     ensures fault { IfErr result (IsReadFault (forms_of number text.now)) }
 {
     let mut forms = Forms::new(alloc);
-    let mut lists = Vec::new(alloc);
+    let mut lists = OpenLists::new(alloc);
     let mut rest = text;
     'tokens: loop {
         match first_token(rest) {
@@ -191,11 +117,15 @@ pub fn forms(alloc: Global, text: &[u8], number: u32) -> Result<Forms, ReadAt>
                     return Ok(forms);
                 }
                 let at = text.len() as u32;
-                return Err(fault(lists, ReadKind::End, Place { text: number, at }));
+                let place = Place { text: number, at };
+                let fault = lists.fault::<FormBox, Place>(ReadKind::End, place);
+                return Err(answered(fault));
             }
             Front::Unread { kind, from } => {
                 let at = (text.len() - from.len()) as u32;
-                return Err(fault(lists, kind, Place { text: number, at }));
+                let place = Place { text: number, at };
+                let fault = lists.fault::<FormBox, Place>(kind, place);
+                return Err(answered(fault));
             }
             Front::Took {
                 token,
@@ -204,8 +134,10 @@ pub fn forms(alloc: Global, text: &[u8], number: u32) -> Result<Forms, ReadAt>
             } => {
                 let at = (text.len() - from.len()) as u32;
                 let place = Place { text: number, at };
-                if let Some(form) = step(alloc, &mut lists, token, place)? {
-                    forms.push(alloc, form)?;
+                match step(alloc, &mut lists, token, place) {
+                    Ok(Some(form)) => forms.push(alloc, form)?,
+                    Ok(None) => {}
+                    Err(fault) => return Err(answered(fault)),
                 }
                 rest = behind;
             }

@@ -1,5 +1,5 @@
 -- The steps of the seat that has the place keep the rule.
-use Rattle.std.proofs.Common.{◌≡◌, ◌≢◌, ℕ, ◌<◌, true, false, List, [], ◌∷◌, ◌++◌, set, length, Option, Some, refl, sym, ap, ◌∙◌, subst, inl, inr, ⊎_elim, true≢false, length-append, arith}
+use Rattle.std.proofs.Common.{◌≡◌, ◌≢◌, ℕ, ◌<◌, true, false, List, [], ◌∷◌, ◌++◌, set, length, Option, Some, refl, sym, ap, ◌∙◌, subst, inl, ⊎_elim, true≢false, length-append, arith}
 use mathlib.Core.Option as maybe
 use mathlib.Core.Logic.{dite}
 use native.Mathlib.Decide.{ℕ_discrete}
@@ -13,9 +13,9 @@ use Rattle.turn_lock.specs.Steps.{with_entry, without_turn, place_with, Publishe
 use Rattle.turn_lock.specs.Hands.{MayMake, Follows, Token, IsInHand}
 use Rattle.turn_lock.proofs.Beginnings.{not_longer, same_last}
 use Rattle.turn_lock.proofs.Made.{last_enters-more, named_before-longer}
-use Rattle.turn_lock.proofs.Seats.{one_at, set_at, each_set, IsAlone, alone_still, apart_set}
-use Rattle.turn_lock.proofs.Views.{fits-other, fits-entry, with_entry-seen, with_entry-holding, with_entry-opening, with_entry-name, with_entry-old_name}
-use Rattle.turn_lock.proofs.IdleSteps.{Rule, Goes, known}
+use Rattle.turn_lock.proofs.Seats.{one_at, each_set, IsAlone, alone_still, apart_set}
+use Rattle.turn_lock.proofs.Views.{fits-other, fits-entry, with_entry-seen, with_entry-holding, with_entry-opening, with_entry-told, with_entry-name, with_entry-old_name}
+use Rattle.turn_lock.proofs.IdleSteps.{Rule, Goes, known, out_after}
 
 value_in : {S : Type 0} → Option S → List (ℕ × Option S) → Option S
 value_in x [] = x
@@ -57,29 +57,6 @@ module _ {S O E : Type 0} (opening : S → O) (history : S → List E) (maker : 
             named = subst (IsNamedBefore maker) list k.named;
           }
 
-  -- the seat keeps the place, and the list may go on
-  still_held : (s : State (Option S) (View O E)) (id : ℕ) (v w : View O E) (list : List E) (h : Held s id v) → get_elem? s.views id ≡ maybe.some v → w.holding ≡ true → w.seen ≡ list
-      → Fits maker list h.start w → ((j : ℕ) (u : View O E) → j ≢ id → get_elem? s.views j ≡ maybe.some u → Fits maker list h.start u) → IsAlone s.views id w → IsNamedBefore maker list
-      → Rule opening history maker (record { words = 1 ∷ length list ∷ []; homes = maybe.none ∷ []; views = set s.views id w })
-  still_held s id v w list h at holding seen new others alone before =
-      record {
-        list = list;
-        start = h.start;
-        place = inr record {
-          seat = id;
-          view = w;
-          words = refl;
-          home = refl;
-          at = set_at s.views id v w at;
-          holding = holding;
-          list_is = seen;
-          others = λ j u ne there. each_set (λ k x. k ≢ id → x.holding ≡ false) s.views id w (λ no. absurd (no refl)) (λ k x other here _. h.others k x other here) j u there ne;
-        };
-        fits = each_set (λ j u. Fits maker list h.start u) s.views id w new others;
-        apart = apart_set s.views id w h.apart alone;
-        named = before;
-      }
-
   -- the pass with one entry more has no other's name
   alone-entry : (s : State (Option S) (View O E)) (id : ℕ) (v : View O E) (h : Held s id v) → get_elem? s.views id ≡ maybe.some v → (m : Maker) (e : E) → IsAlone s.views id (with_entry m e v)
   alone-entry s id v h at nobody e = alone_still s.views id v (with_entry nobody e v) h.apart at (λ n is. is)
@@ -89,7 +66,7 @@ module _ {S O E : Type 0} (opening : S → O) (history : S → List E) (maker : 
   entry_held : (s : State (Option S) (View O E)) (id : ℕ) (v : View O E) (e : E) → Held s id v → get_elem? s.views id ≡ maybe.some v → v.holding ≡ true → MayMake v (maker e)
       → Rule opening history maker (record { words = 1 ∷ length (v.seen ++ e ∷ []) ∷ []; homes = maybe.none ∷ []; views = set s.views id (with_entry (maker e) e v) })
   entry_held s id v e h at holding may =
-      still_held s id v (with_entry (maker e) e v) (v.seen ++ e ∷ []) h at
+      out_after opening history maker s id v (with_entry (maker e) e v) (v.seen ++ e ∷ []) h.start at h.others h.apart
       (with_entry-holding (maker e) e v ∙ holding)
       (with_entry-seen (maker e) e v)
       (fits-entry maker h.start (maker e) e v refl may h.named (h.fits id v at))
@@ -107,7 +84,7 @@ module _ {S O E : Type 0} (opening : S → O) (history : S → List E) (maker : 
         keeps,
         tt,
         subst (λ n. Rule opening history maker (record { words = 1 ∷ n ∷ []; homes = maybe.none ∷ []; views = set s.views id v })) (sym (long ∙ ap length same))
-            (still_held s id v v v.seen h at holding refl (h.fits id v at) (λ j u _ there. h.fits j u there) (alone_still s.views id v v h.apart at (λ n is. is)) h.named),
+            (out_after opening history maker s id v v v.seen h.start at h.others h.apart holding refl (h.fits id v at) (λ j u _ there. h.fits j u there) (alone_still s.views id v v h.apart at (λ n is. is)) h.named),
         record {
           place = refl;
           count = refl;
@@ -182,6 +159,7 @@ module _ {S O E : Type 0} (opening : S → O) (history : S → List E) (maker : 
     holding : w.holding ≡ v.holding
     seen : w.seen ≡ list
     opens : w.opening ≡ v.opening
+    told : w.told ≡ v.told
     new_name : found < length list → last_enters maker list ≡ true → w.name ≡ Some found
     old_name : (found < length list → last_enters maker list ≡ false) → w.name ≡ v.name
 
@@ -196,6 +174,7 @@ module _ {S O E : Type 0} (opening : S → O) (history : S → List E) (maker : 
             holding = ap (λ u. u.holding) whole;
             seen = ap (λ u. u.seen) whole ∙ sym is;
             opens = ap (λ u. u.opening) whole;
+            told = ap (λ u. u.told) whole;
             new_name = λ less _. (let n = p.count in let l = ap length is in absurd (omega arith));
             old_name = λ _. ap (λ u. u.name) whole;
           }
@@ -209,6 +188,7 @@ module _ {S O E : Type 0} (opening : S → O) (history : S → List E) (maker : 
             holding = ap (λ u. u.holding) whole ∙ with_entry-holding (maker e) e v;
             seen = ap (λ u. u.seen) whole ∙ with_entry-seen (maker e) e v ∙ sym one.1;
             opens = ap (λ u. u.opening) whole ∙ with_entry-opening (maker e) e v;
+            told = ap (λ u. u.told) whole ∙ with_entry-told (maker e) e v;
             new_name = λ _ now. ap (λ u. u.name) whole ∙ with_entry-name (maker e) e v (sym enters ∙ now) ∙ ap Some (sym p.count);
             old_name = λ not. ap (λ u. u.name) whole ∙ with_entry-old_name (maker e) e v (sym enters ∙ not (let n = p.count in let l = ap length one.1 in omega (arith, length-append v.seen (e ∷ []))));
           }
@@ -219,6 +199,7 @@ module _ {S O E : Type 0} (opening : S → O) (history : S → List E) (maker : 
     pub holding : v.holding ≡ true
     pub follows : Follows maker v (history value)
     pub opens : v.opening ≡ Some (opening value)
+    pub told : v.told ≡ []
 
   pub gives_back : (name : Option ℕ) (seat : Seat (Option S) (View O E)) (pass : Token O E) (value : S) (m : Me (Option S) (View O E)) → IsInHand name seat → record { turn = seat.table_id; view = seat.me.0 } ≡ pass
       → m ≡ (seat.me.0, (0, Some value) ∷ rest seat.me.1) → pass.view.holding ≡ true → Follows maker pass.view (history value) → pass.view.opening ≡ Some (opening value) → Gives pass.view value m
@@ -228,6 +209,7 @@ module _ {S O E : Type 0} (opening : S → O) (history : S → List E) (maker : 
         holding = holding;
         follows = follows;
         opens = opens;
+        told = sym (ap (λ t. t.view.told) is) ∙ hand.told;
       }
 
   came : (v : View O E) (value : S) (m after : Me (Option S) (View O E)) (st : Step (Option S)) (found : ℕ) → Gives v value m → Publishes history maker st m found after
@@ -252,6 +234,7 @@ module _ {S O E : Type 0} (opening : S → O) (history : S → List E) (maker : 
         holding = λ held. absurd (true≢false (sym held ∙ ap (λ x. x.0.holding) is));
         name_is = same ∙ sym (ap (λ x. x.0.name) is);
         opening = λ none. (let e = sym (ap (λ x. x.0.opening) is ∙ now.1.opens ∙ g.opens) ∙ none in absurd cc);
+        told = ap (λ x. x.0.told) is ∙ now.1.told ∙ g.told;
       }
 
   pub in_hand-entered : (v : View O E) (value : S) (m after : Me (Option S) (View O E)) (st : Step (Option S)) (found : ℕ) → Gives v value m → Publishes history maker st m found after

@@ -1,5 +1,5 @@
 -- The steps of a seat that hasn't the place keep the rule.
-use Rattle.std.proofs.Common.{◌≡◌, ◌≢◌, ◌⊎◌, ℕ, false, List, [], ◌∷◌, set, length, ◌==◌, slice_index, Option, Some, refl, sym, ap, ◌∙◌, subst, inl, inr, ⊎_elim, arith}
+use Rattle.std.proofs.Common.{true, ◌≡◌, ◌≢◌, ◌⊎◌, ℕ, false, List, [], ◌∷◌, set, length, ◌==◌, slice_index, Option, Some, refl, sym, ap, ◌∙◌, subst, inl, inr, ⊎_elim, arith}
 use mathlib.Core.Option as maybe
 use lib.ListN.{get_elem?}
 use prog.Atomic.{either}
@@ -7,10 +7,10 @@ use Rattle.atomic_table.specs.Table.{State, Me, Act, keeps, takes, step, stepped
 use Rattle.atomic_table.proofs.Lists.{set_else}
 use Rattle.turn_lock.specs.declared.rule.View.{View}
 use Rattle.turn_lock.specs.Makers.{Maker, IsNamedBefore}
-use Rattle.turn_lock.specs.Rule.{Fits, IsHome, IsOut, Kept}
+use Rattle.turn_lock.specs.Rule.{HaveNamesApart, Fits, IsHome, IsOut, Kept}
 use Rattle.turn_lock.specs.Steps.{with_refusal, with_turn, with_sight, told_nothing, Takes, Looks, Compares}
 use Rattle.turn_lock.proofs.Views.{fits-all, fits-told_nothing}
-use Rattle.turn_lock.proofs.Seats.{one_at, set_at, set_same, each_set, alone_still, apart_set}
+use Rattle.turn_lock.proofs.Seats.{one_at, set_at, set_same, each_set, IsAlone, alone_still, apart_set}
 
 module _ {S O E : Type 0} where
   abbrev pub with_views : State (Option S) (View O E) → List (View O E) → State (Option S) (View O E)
@@ -106,6 +106,30 @@ module _ {S O E : Type 0} (opening : S → O) (history : S → List E) (maker : 
         (refl, f.told),
       )
 
+  -- the rule once a seat has the place, and has seen this list
+  pub out_after : (s : State (Option S) (View O E)) (id : ℕ) (v w : View O E) (list : List E) (start : O) → get_elem? s.views id ≡ maybe.some v
+      → ((j : ℕ) (u : View O E) → j ≢ id → get_elem? s.views j ≡ maybe.some u → u.holding ≡ false) → HaveNamesApart s.views → w.holding ≡ true → w.seen ≡ list
+      → Fits maker list start w → ((j : ℕ) (u : View O E) → j ≢ id → get_elem? s.views j ≡ maybe.some u → Fits maker list start u) → IsAlone s.views id w → IsNamedBefore maker list
+      → Rule (record { words = 1 ∷ length list ∷ []; homes = maybe.none ∷ []; views = set s.views id w })
+  out_after s id v w list start at idle apart holding seen new others alone before =
+      record {
+        list = list;
+        start = start;
+        place = inr record {
+          seat = id;
+          view = w;
+          words = refl;
+          home = refl;
+          at = set_at s.views id v w at;
+          holding = holding;
+          list_is = seen;
+          others = λ j u ne there. each_set (λ k x. k ≢ id → x.holding ≡ false) s.views id w (λ no. absurd (no refl)) (λ k x other here _. idle k x other here) j u there ne;
+        };
+        fits = each_set (λ j u. Fits maker list start u) s.views id w new others;
+        apart = apart_set s.views id w apart alone;
+        named = before;
+      }
+
   gets : (slots id : ℕ) (m : Me (Option S) (View O E)) → m.0.holding ≡ false → (s : State (Option S) (View O E)) (k : Rule s) → get_elem? s.views id ≡ maybe.some m.0
       → IsHome opening history maker s k.list k.start → Goes id m 0 (λ n. either (n == 0) 1 n) (Takes opening history maker (step slots 0 0 1 maybe.none) m) s
   gets slots id m idle s k at h =
@@ -117,23 +141,11 @@ module _ {S O E : Type 0} (opening : S → O) (history : S → List E) (maker : 
         w,
         takes 0 (Some h.value),
         refl,
-        record {
-          list = history h.value;
-          start = k.start;
-          place = inr record {
-            seat = id;
-            view = w;
-            words = refl;
-            home = refl;
-            at = set_at s.views id m.0 w at;
-            holding = refl;
-            list_is = refl;
-            others = λ j u ne there. each_set (λ i x. i ≢ id → x.holding ≡ false) s.views id w (λ no. absurd (no refl)) (λ i x _ here _. h.idle i x here) j u there ne;
-          };
-          fits = each_set (λ j u. Fits maker (history h.value) k.start u) s.views id w (record { seen = g.seen; told = g.told; opening = g.opening; name = g.name; made = g.made }) (λ j u _ there. fits j u there);
-          apart = apart_set s.views id w k.apart (alone_still s.views id m.0 w k.apart at (λ n is. is));
-          named = subst (IsNamedBefore maker) (sym h.list_is) k.named;
-        },
+        out_after s id m.0 w (history h.value) k.start at (λ j u _ there. h.idle j u there) k.apart refl refl
+            (record { seen = g.seen; told = g.told; opening = g.opening; name = g.name; made = g.made })
+            (λ j u _ there. fits j u there)
+            (alone_still s.views id m.0 w k.apart at (λ n is. is))
+            (subst (IsNamedBefore maker) (sym h.list_is) k.named),
         (
           (λ _. record { value = h.value; place = refl; view = refl; begins = f.seen; opens = λ o is. h.opening_is ∙ sym (f.opening o is); made = f.made }),
           (λ no. absurd (no refl)),

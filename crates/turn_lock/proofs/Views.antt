@@ -63,6 +63,11 @@ module _ {O E : Type 0} where
   with_entry-opening entering e v = refl
   with_entry-opening (named n) e v = refl
 
+  pub with_entry-told : (m : Maker) (e : E) (v : View O E) → (with_entry m e v).told ≡ v.told
+  with_entry-told nobody e v = refl
+  with_entry-told entering e v = refl
+  with_entry-told (named n) e v = refl
+
   pub with_entry-name : (m : Maker) (e : E) (v : View O E) → is_entering m ≡ true → (with_entry m e v).name ≡ Some (length v.seen)
   with_entry-name nobody e v enters = absurd cc
   with_entry-name entering e v enters = refl

@@ -39,9 +39,11 @@ module _ {O E : Type 0} (maker : E → Maker) where
   Follows v list = (list ≡ v.seen) ⊎ ((e : E) × (list ≡ v.seen ++ e ∷ []) × MayMake v (maker e))
 
 module _ {S O E : Type 0} where
-  -- A pass holds the place, emptied, exactly where its view is holding. It keeps its name, and knows the opening.
+  -- A pass has the place, emptied, exactly where its view is holding. It keeps its name, knows the opening, and has been
+  -- told all.
   pub record IsInHand (name : Option ℕ) (seat : Seat (Option S) (View O E)) : Type 0 where
     pub idle : seat.me.0.holding ≡ false → seat.me.1 ≡ []
     pub holding : seat.me.0.holding ≡ true → seat.me.1 ≡ place_with None
     pub name_is : name ≡ seat.me.0.name
     pub opening : seat.me.0.opening ≢ None
+    pub told : seat.me.0.told ≡ []

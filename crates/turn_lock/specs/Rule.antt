@@ -20,7 +20,9 @@ module _ {O E : Type 0} where
 module _ {O E : Type 0} where
   -- No two views have one name.
   abbrev pub HaveNamesApart : List (View O E) → Type 0
-  HaveNamesApart views = (i j n : ℕ) (v w : View O E) → get_elem? views i ≡ maybe.some v → get_elem? views j ≡ maybe.some w → v.name ≡ Some n → w.name ≡ Some n → i ≡ j
+  HaveNamesApart views =
+      (i j n : ℕ) (v w : View O E) → get_elem? views i ≡ maybe.some v → get_elem? views j ≡ maybe.some w
+      → v.name ≡ Some n → w.name ≡ Some n → i ≡ j
 
 module _ {E : Type 0} (maker : E → Maker) where
   -- the name of the first pass: it has entered by the only entry, or not at all
@@ -42,7 +44,7 @@ module _ {O E : Type 0} (maker : E → Maker) where
   pub record Fits (list : List E) (o : O) (v : View O E) : Type 0 where
     -- what the pass has seen begins the list
     pub seen : IsPrefix v.seen list
-    -- of two lists that were joined, the shorter begins the longer
+    -- of two lists that are joined, the shorter begins the longer
     pub told : IsPrefix v.told v.seen
     -- the pass knows the opening
     pub opening : (x : O) → v.opening ≡ Some x → x ≡ o

@@ -1,6 +1,6 @@
 -- What each kind of step tells its pass. `m` is the pass before, `found` the number that the step found, `after` the pass
 -- after: its view, and the place with the value in it where the pass has the place. Source: this project's own.
-use Rattle.std.specs.Prelude.{◌≡◌, ◌≢◌, ◌+◌, ℕ, true, false, cond, nat_lt, List, [], ◌∷◌, ◌++◌, length, Option, Some}
+use Rattle.std.specs.Prelude.{◌≤◌, ◌≡◌, ◌≢◌, ◌+◌, ℕ, true, false, cond, nat_lt, List, [], ◌∷◌, ◌++◌, length, Option, Some}
 use mathlib.Core.List.{IsPrefix}
 use Rattle.atomic_table.specs.Table.{Step, Me}
 use Rattle.turn_lock.specs.declared.rule.View.{View}
@@ -30,10 +30,14 @@ module _ {O E : Type 0} where
   abbrev pub without_turn : View O E → View O E
   without_turn v = record v { holding = false }
 
+  -- The pass has come to hold the turn, with no matter how many refusals.
+  abbrev pub HasWaited : List E → View O E → View O E → Type 0
+  HasWaited list v w = (v.refusals ≤ w.refusals) × (w ≡ record (with_turn list v) { refusals = w.refusals })
+
   abbrev pub with_sight : List E → View O E → View O E
   with_sight list v = record v { seen = list }
 
-  -- the pass has seen what the other had too
+  -- the pass has seen the longer list, and has still to be told that the shorter begins it
   abbrev pub with_sight_of : View O E → View O E → View O E
   with_sight_of v w = record v { seen = longer v.seen w.seen; told = shorter v.seen w.seen }
 
@@ -45,6 +49,15 @@ module _ {O E : Type 0} where
   with_entry nobody e v = record v { seen = v.seen ++ e ∷ [] }
   with_entry entering e v = record v { seen = v.seen ++ e ∷ []; name = Some (length v.seen); made = [] }
   with_entry (named n) e v = record v { seen = v.seen ++ e ∷ []; made = v.made ++ e ∷ [] }
+
+module _ {O E : Type 0} (maker : E → Maker) where
+  -- The pass has published this list: what it had seen, or that and one entry more.
+  abbrev pub HasPublished : List E → View O E → View O E → Type 0
+  HasPublished list v w = (list ≡ v.seen → w ≡ v) × ((e : E) → list ≡ v.seen ++ e ∷ [] → w ≡ with_entry (maker e) e v)
+
+  -- Where this list is what the pass had seen and one entry more, it has published that, and doesn't hold the turn.
+  abbrev pub HasAdded : List E → View O E → View O E → Type 0
+  HasAdded list v w = (e : E) → list ≡ v.seen ++ e ∷ [] → w ≡ without_turn (with_entry (maker e) e v)
 
 module _ {S O E : Type 0} (opening : S → O) (history : S → List E) (maker : E → Maker) where
   -- The pass gets the value, with all that it had seen at the beginning of the history.
@@ -64,15 +77,12 @@ module _ {S O E : Type 0} (opening : S → O) (history : S → List E) (maker : 
   Takes st m found after = (found ≡ 0 → Gets m after) × (found ≢ 0 → IsRefused found m after)
 
 module _ {S O E : Type 0} (history : S → List E) (maker : E → Maker) where
-  -- The value in the place has this history: that which was seen, or that and one more entry.
-  abbrev pub IsWith : S → Me (Option S) (View O E) → View O E → Type 0
-  IsWith value m v = (history value ≡ m.0.seen → v ≡ m.0) × ((e : E) → history value ≡ m.0.seen ++ e ∷ [] → v ≡ with_entry (maker e) e m.0)
-
+  -- The length of the history of the value in the place is published.
   pub record Publishes (st : Step (Option S)) (m : Me (Option S) (View O E)) (found : ℕ) (after : Me (Option S) (View O E)) : Type 0 where
     pub place : after.1 ≡ m.1
     -- the count before is the length of what was seen
     pub count : found ≡ length m.0.seen
-    pub view : (value : S) → m.1 ≡ place_with (Some value) → IsWith value m after.0
+    pub view : (value : S) → m.1 ≡ place_with (Some value) → HasPublished maker (history value) m.0 after.0
     pub made : HasMade maker after.0.seen after.0
 
 module _ {S O E : Type 0} where

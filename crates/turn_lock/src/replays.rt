@@ -10,10 +10,13 @@ pub trait Replays: Drop {
     /// What one holder of the turn adds to the history.
     type Entry;
 
+    // What the value was at its opening.
     ghost opening: { Self → Self.Opening };
 
+    // Its entries, the first one first.
     ghost history: { Self → List Self.Entry };
 
+    // Who makes such an entry.
     ghost maker: { Self.Entry → Maker };
 
     /// How many entries the history has.

@@ -13,13 +13,13 @@ pub struct View<O, E> {
     pub refusals: u64,
     /// The beginning of the history that the pass has seen.
     pub seen: LinkedList<E>,
-    /// The opening of the value. None only in the view of a pass that was joined to another.
+    /// The opening of the value. None only in the view of a pass that ended.
     pub opening: Option<O>,
     /// The place of the entry by which the pass entered.
     pub name: Option<u64>,
     /// What the pass has published under its name.
     pub made: LinkedList<E>,
-    /// The shorter list of two that were joined, until the next load.
+    /// What a pass that is joined has still to be compared with. A pass in hand has nothing of it.
     pub told: LinkedList<E>,
 }
 

@@ -133,6 +133,26 @@ fn note<R: Wait>(rt: &R, turn: &Turn<Diary>, pass: &mut Pass<Diary>, name: u64) 
     Some(())
 }
 
+/// Two passes write at once.
+fn write_both<R: Threads + Wait + Sync>(
+    rt: &R,
+    turn: &Turn<Diary>,
+    one: Pass<Diary>,
+    two: Pass<Diary>,
+) -> Option<(Pass<Diary>, Pass<Diary>)>
+    requires one { IsIdle turn.now one }
+    requires two { IsIdle turn.now two }
+    requires names { (one.view.name ≡ None) × (two.view.name ≡ None) }
+    ensures { IfSome result (λ both. IsIdle turn.now both.0 × IsIdle turn.now both.1) }
+{
+    let (one, two) = join(
+        rt,
+        move || write(rt, turn, one),
+        move || write(rt, turn, two),
+    );
+    Some((one?, two?))
+}
+
 #[test]
 fn each_pass_has_its_own_notes(rt: HostRuntime) -> Result<(), Fail> {
     let alloc: Global = rt.alloc();
@@ -145,20 +165,22 @@ fn each_pass_has_its_own_notes(rt: HostRuntime) -> Result<(), Fail> {
     };
     let one = turn.split(&mut pass);
     let two = turn.split(&mut pass);
+    let three = turn.split(&mut pass);
     let shared = &turn;
     let handle = &rt;
-    let (one, two) = join(
+    let (one, both) = join(
         handle,
         move || write(handle, shared, one),
-        move || write(handle, shared, two),
+        move || write_both(handle, shared, two, three),
     );
-    let (Some(one), Some(two)) = (one, two) else {
+    let (Some(one), Some((two, three))) = (one, both) else {
         panic!(&rt; "no memory");
     };
-    let names = [one.name(), two.name()];
+    let names = [one.name(), two.name(), three.name()];
     turn.join(&mut pass, one);
     turn.join(&mut pass, two);
-    assert_eq!(rt; turn.look(&mut pass), 2 + 2 * NOTES);
+    turn.join(&mut pass, three);
+    assert_eq!(rt; turn.look(&mut pass), 3 + 3 * NOTES);
     let Ok(diary) = turn.close(pass) else {
         panic!(&rt; "the turn is held");
     };

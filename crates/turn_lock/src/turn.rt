@@ -1,10 +1,10 @@
 //! The turn and its calls.
-ghost use Rattle.std.specs.Prelude.{◌≡◌, ◌≤◌, ◌+◌, ◌++◌, ◌∷◌, [], ℕ, List, length, Some, IfSome, IfNone, IfOk, IfErr};
+ghost use Rattle.std.specs.Prelude.{◌≡◌, length, Some, IfSome, IfNone, IfOk, IfErr};
 ghost use mathlib.Core.List.{IsPrefix};
 ghost use Rattle.turn_lock.specs.declared.turn.TurnFault.TheVariants.{OutOfMemory};
 ghost use Rattle.turn_lock.specs.Makers.{IsUnnamed};
 ghost use Rattle.turn_lock.specs.Rule.{HasMade, founder, newcomer};
-ghost use Rattle.turn_lock.specs.Steps.{with_entry, with_refusal, with_sight, with_sight_of, with_turn, without_turn, told_nothing};
+ghost use Rattle.turn_lock.specs.Steps.{longer, with_refusal, with_sight, with_turn, without_turn, HasWaited, HasAdded};
 ghost use Rattle.turn_lock.specs.Hands.{Follows, Holds, IsIdle, IsPassOf};
 
 use crate::pass::Pass;
@@ -93,8 +93,7 @@ impl<S: Replays> Turn<S> {
     pub fn take<R: Wait>(&self, rt: &R, pass: &mut Pass<S>) -> S
         requires { IsIdle self.now pass.old }
         ensures turn { pass.new.turn ≡ pass.old.turn }
-        ensures view { pass.new.view ≡ record (with_turn (S.history result) pass.old.view) { refusals = pass.new.view.refusals } }
-        ensures refusals { pass.old.view.refusals ≤ pass.new.view.refusals }
+        ensures view { HasWaited (S.history result) pass.old.view pass.new.view }
         ensures begins { IsPrefix pass.old.view.seen (S.history result) }
         ensures opening { pass.old.view.opening ≡ Some (S.opening result) }
         ensures made { HasMade S.maker (S.history result) pass.old.view }
@@ -136,7 +135,7 @@ impl<S: Replays> Turn<S> {
         ensures seen { pass.new.view.seen ≡ S.history value }
         ensures opening { pass.new.view.opening ≡ pass.old.view.opening }
         ensures same { S.history value ≡ pass.old.view.seen → pass.new.view ≡ without_turn pass.old.view }
-        ensures more { (e : S.Entry) → S.history value ≡ pass.old.view.seen ++ e ∷ [] → pass.new.view ≡ without_turn (with_entry (S.maker e) e pass.old.view) }
+        ensures more { HasAdded S.maker (S.history value) pass.old.view pass.new.view }
         ensures made { HasMade S.maker (S.history value) pass.new.view }
     {
         let shared = &self.table.shared;
@@ -178,7 +177,7 @@ impl<S: Replays> Turn<S> {
         requires pass { IsIdle self.now pass.old }
         requires other { IsIdle self.now other }
         ensures turn { pass.new.turn ≡ pass.old.turn }
-        ensures view { pass.new.view ≡ told_nothing (with_sight_of pass.old.view other.view) }
+        ensures view { pass.new.view ≡ with_sight (longer pass.old.view.seen other.view.seen) pass.old.view }
         ensures begins { IsPrefix pass.old.view.seen pass.new.view.seen }
         ensures goes_on { IsPrefix other.view.seen pass.new.view.seen }
     {

@@ -1,25 +1,17 @@
-use Rattle.std.proofs.Common.{◌≡◌}
-use Rattle.clvm_spec.specs.declared.scan_kind.ScanKind.TheVariants as kind
-use Rattle.clvm_spec.specs.Tokens.{Closing, Took}
-use Rattle.lisp_read.specs.Views.{form_of}
-use Rattle.lisp_read.proofs.StepLaws.{told_breaks, end_leads, leads_same, stops_same}
+use Rattle.std.proofs.Common.{sym, ◌∙◌, ap}
+use Rattle.clvm_spec.specs.Tokens.{Closing}
+use Rattle.clvm_spec.specs.Grammar.{Parses}
+use Rattle.open_lists.specs.Lists.{resumed}
+use Rattle.lisp_read.specs.Parsing.{reading}
+use Rattle.lisp_read.proofs.StepLaws.{put_leads, put_stops}
 use Rattle.lisp_read.proofs.reader.close.Goals as goal
 
-pub returns-then-not-takes_end-clause-stops : goal.returns-then-not-takes_end-clause-stops
-returns-then-not-takes_end-clause-stops c = λ there from rest e.
-    let list = c.in-Some.list in
-    told_breaks there c.args.lists.now.items c.pop.new.self.items list c.in-Some.ensures.items c.as_slice.result.now kind.Close c.args.place (there from) c.fault_in.result (Took Closing from rest)
-    c.as_slice.ensures.value c.fault_in.ensures
-    (c.takes_end.ensures.refuses c.if-not-takes_end.true there _ from rest) e
+pub returns-clause-leads : goal.returns-clause-leads
+returns-clause-leads c =
+    put_leads Closing c.args.place c.args.lists.now.lists.items c.close.new.self.lists.items c.put.new.self.lists.items c.in_ok-form.form c.put.result c.put.ensures.leads
+    (λ there from rest e. c.in_ok-list.ensures.closes (reading there) from rest e ∙ ap (λ form. resumed (reading there) 0 c.close.new.self.lists.items (Parses form rest)) (sym (c.in_ok-form.ensures there)))
 
-pub returns-in_ok-form-in-Some-clause-leads : goal.returns-in_ok-form-in-Some-clause-leads
-returns-in_ok-form-in-Some-clause-leads c =
-    let list = c.in-Some.list in
-    leads_same c.pop.new.self.items c.put.new.lists.items c.in_ok-form-in-Some.form c.args.lists.now.items Closing (λ there from. there from ≡ c.args.place) c.put.result c.put.ensures.leads
-    (λ there from rest e. end_leads there c.args.lists.now.items c.pop.new.self.items list c.in-Some.ensures.items (form_of c.in_ok-form-in-Some.form) from rest c.in_ok-form-in-Some.ensures)
-
-pub returns-in_ok-form-in-Some-clause-stops : goal.returns-in_ok-form-in-Some-clause-stops
-returns-in_ok-form-in-Some-clause-stops c =
-    let list = c.in-Some.list in
-    stops_same c.pop.new.self.items c.in_ok-form-in-Some.form c.args.lists.now.items Closing (λ there from. there from ≡ c.args.place) c.put.result c.put.ensures.stops
-    (λ there from rest e. end_leads there c.args.lists.now.items c.pop.new.self.items list c.in-Some.ensures.items (form_of c.in_ok-form-in-Some.form) from rest c.in_ok-form-in-Some.ensures)
+pub returns-clause-stops : goal.returns-clause-stops
+returns-clause-stops c =
+    put_stops Closing c.args.place c.args.lists.now.lists.items c.close.new.self.lists.items c.in_ok-form.form c.put.result c.put.ensures.stops
+    (λ there from rest e. c.in_ok-list.ensures.closes (reading there) from rest e ∙ ap (λ form. resumed (reading there) 0 c.close.new.self.lists.items (Parses form rest)) (sym (c.in_ok-form.ensures there)))
