@@ -29,7 +29,7 @@ fn chooses_one_of_two(rt: HostRuntime) -> Result<(), Fail> {
     let else_part = quote_atom(alloc, &mut trees, b"\x07")?;
     let code = choice(alloc, &mut trees, test, then_part, else_part)?;
     assert!(rt; trees.write(alloc, code, 100)?.as_slice()
-        == b"\xff\x02\xff\xff\x03\xff\x02\xff\xff\x01\xff\x08\x80\xff\xff\x01\xff\x01\x07\x80\xff\x01\x80");
+        == b"\xff\x02\xff\xff\x03\xff\x02\xff\xff\x01\xff\x08\x80\xff\xff\x01\xff\x01\x07\x80\xff\x01\x80".as_slice());
     Ok(())
 }
 
@@ -40,6 +40,6 @@ fn sees_through_templates_of_one_expression(rt: HostRuntime) -> Result<(), Fail>
     let Plain::Expression(Form::Symbol(_, name)) = unwound(&form) else {
         return Err(Fail::new("a name"));
     };
-    assert!(rt; name.as_slice() == b"X");
+    assert!(rt; name.as_slice() == b"X".as_slice());
     Ok(())
 }

@@ -59,16 +59,13 @@ pub fn uncurry(alloc: Global, trees: &Trees, node: Node) -> Result<Option<Currie
     let Some((program, mut environment)) = form_parts(trees, node, APPLY) else {
         return Ok(None);
     };
-    let mut arguments = Vec::new(alloc);
+    let mut arguments = Nodes::new(alloc);
     'arguments: while let Some((argument, more)) = form_parts(trees, environment, NEW_PAIR) {
-        arguments.push(argument)?;
+        arguments.push(alloc, argument)?;
         environment = more;
     }
-    if arguments.is_empty() || !is_code(trees, environment, 1) {
+    if arguments.as_slice().is_empty() || !is_code(trees, environment, 1) {
         return Ok(None);
     }
-    Ok(Some(Curried {
-        program,
-        arguments: Nodes { items: arguments },
-    }))
+    Ok(Some(Curried { program, arguments }))
 }

@@ -12,10 +12,10 @@ pub enum MacroFault {
     /// No turn is left for a call or an expression of its body.
     #[error("no turn is left for the macro at {0:?}")]
     TurnsSpent(Place),
-    /// What is met of the body can't be evaluated, or it gives a form that nests deeper than 1,024.
+    /// What is met of the body can't be evaluated, or it gives a form that nests deeper than `MOST_NESTING`.
     #[error("bad macro at {0:?}")]
     BadMacro(Place),
-    /// The body gives a form that weighs more than 262,144.
+    /// The body gives a form that weighs more than `MOST_WEIGHT`.
     #[error("the form is too large that the macro gives at {0:?}")]
     TooLarge(Place),
     #[error("out of memory")]

@@ -1,9 +1,11 @@
 -- The module of `(mod X X)`.
-use Rattle.std.proofs.Common.{◌≡◌, ℕ, [], None, Ok, refl, codes}
+use Rattle.std.proofs.Common.{◌≡◌, ℕ, List, [], None, Ok, refl, sym, ap, ◌∙◌, codes}
 use Rattle.clvm_spec.specs.Numbers.{shortest_atom, without_sign_bytes}
 use Rattle.clvm_spec.specs.OperatorTable.{applied, operator_of, operator_named}
 use Rattle.clvm_spec.specs.Tokens.{token_of, word_token}
+use Rattle.lisp_read.specs.declared.form.Form as declared
 use Rattle.lisp_read.specs.Grammar.{forms_of}
+use Rattle.lisp_read.specs.Views.{form_of}
 use Rattle.lisp_spec.specs.Forms.{Form, Symbol}
 use Rattle.lisp_spec.specs.Heads.{head_of, is_reserved}
 use Rattle.lisp_spec.specs.Modules.{Module}
@@ -12,7 +14,9 @@ use Rattle.lisp_spec.specs.Expansion.{expanded_part}
 use Rattle.lisp_spec.specs.BuiltIns.{built_in}
 use Rattle.lisp_spec.specs.ExpressionWeights.{expression_weight, module_bound}
 use Rattle.lisp_spec.specs.ModuleOf.{module_of}
-use Rattle.lisp_module.specs.Views.{IsOfText}
+use Rattle.lisp_module.specs.declared.module.Constant.{Constant}
+use Rattle.lisp_module.specs.declared.module.Definition.{Definition}
+use Rattle.lisp_module.specs.Views.{module_of_parts, IsOfText}
 
 abbrev pub x_at : ℕ → Form
 x_at n = Symbol (record { text = 0; at = n }) (codes "X")
@@ -30,3 +34,10 @@ is_of_text = record { texts = λ name. None; text = codes "(mod X X)"; stands = 
 pub bound_is : module_bound (small_of (x_at 5) (x_at 7)) ≡ 128
 unfolding expression_weight
 bound_is = refl
+
+pub module_is : (params body : declared.Form) (constants : List Constant) (functions inlines : List Definition) → form_of params ≡ x_at 5 → form_of body ≡ x_at 7 → constants ≡ [] → functions ≡ [] → inlines ≡ [] →
+    small_of (x_at 5) (x_at 7) ≡ module_of_parts params constants functions inlines body
+module_is params body constants functions inlines p b c f i =
+    ap (λ p. small_of p (x_at 7)) (sym p) ∙ ap (λ b. small_of (form_of params) b) (sym b)
+    ∙ ap (λ (cs : List Constant). module_of_parts params cs [] [] body) (sym c) ∙ ap (λ (fs : List Definition). module_of_parts params constants fs [] body) (sym f)
+    ∙ ap (λ (is : List Definition). module_of_parts params constants functions is body) (sym i)

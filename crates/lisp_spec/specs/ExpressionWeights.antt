@@ -120,7 +120,7 @@ definition_weight m d = expression_weight m d.params d.body
 abbrev pub code_weight : Module → ℕ
 code_weight m = sum_by (definition_weight m) m.functions + expression_weight m m.params m.body
 
--- Some bytes, and one more for each few functions, for each unit of the weight of functions and body, and for one more
--- unit.
+-- `UNIT_BYTES`, and one more for each `FUNCTIONS_A_BYTE` functions, for each unit of the weight of functions and body,
+-- and for one more unit.
 abbrev pub module_bound : Module → ℕ
 module_bound m = (UNIT_BYTES + length m.functions / FUNCTIONS_A_BYTE) * (code_weight m + 1)
