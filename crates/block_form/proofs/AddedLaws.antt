@@ -1,4 +1,4 @@
--- The lengths of spellings, of spends and of generators.
+-- The lengths of spellings and of spends.
 use Rattle.std.proofs.Common.{◌≡◌, ℕ, ◌+◌, ◌<◌, ◌≤◌, pos, nat_lt, List, [], ◌∷◌, ◌++◌, length, slice_index_or, Option, Some, IsSome, unwrap_or, refl, ap, sym, ◌∙◌, arith, length-append}
 use Rattle.std.specs.List.{sum_by}
 use Rattle.std.proofs.lemmas.Bool.{false≢true, cond_both, lt-ltb, cond-true}
@@ -9,30 +9,10 @@ use Rattle.clvm_spec.specs.Numbers.{has_sign_byte, shortest_atom, without_sign_b
 use Rattle.clvm_spec.specs.Reading.{tree_of}
 use Rattle.clvm_spec.proofs.NumberLaws.{all_bytes}
 use Rattle.clvm_spec.proofs.WholeLaws.{whole_is_spelled}
-use Rattle.block_form.specs.declared.spend.Spend.{Spend}
+use Rattle.block_spec.specs.declared.spend.Spend.{Spend}
 use Rattle.clvm_spec.specs.Spelled.{spelled_tree}
-use Rattle.block_form.specs.BundleTree.{spend_tree, spends_tree}
-use Rattle.block_form.specs.Added.{added_bytes, AddsUp}
-
-length-pair : (first rest : List ℕ) → length (0xff ∷ first ++ rest) ≡ 1 + length first + length rest
-length-pair first rest = omega (arith, length-append first rest)
-
-length-spends_tree : (spends : List Spend) → length (spelling (spends_tree spends)) ≡ 1 + sum_by added_bytes spends
-length-spends_tree [] = refl
-length-spends_tree (spend ∷ spends) =
-    length-pair (spelling (spend_tree spend)) (spelling (spends_tree spends))
-    ∙ ap (λ n. 1 + length (spelling (spend_tree spend)) + n) (length-spends_tree spends)
-    ∙ regroup (length (spelling (spend_tree spend))) (sum_by added_bytes spends)
-    ∙ ap (λ n. 1 + n) (sym (sum_by-cons added_bytes spend spends))
-  where
-    regroup : (m n : ℕ) → 1 + m + (1 + n) ≡ 1 + ((1 + m) + n)
-    regroup m n = omega arith
-
-pub adds_up : (spends : List Spend) → AddsUp spends
-adds_up spends = around (spelling (spends_tree spends)) (sum_by added_bytes spends) (length-spends_tree spends)
-  where
-    around : (list : List ℕ) (n : ℕ) → length list ≡ 1 + n → length (0xff ∷ (1 ∷ []) ++ (0xff ∷ list ++ 0x80 ∷ [])) ≡ 5 + n
-    around list n e = omega (arith, length-append list (0x80 ∷ []))
+use Rattle.block_spec.specs.BundleTree.{spend_tree, spends_tree}
+use Rattle.block_spec.specs.Added.{added_bytes, AddsUp}
 
 -- an atom of two bytes or more, and fewer than 64
 pub length-prefix : (size : ℕ) → size < 64 → length (prefix size) ≡ 1

@@ -1,12 +1,13 @@
-ghost use Rattle.std.specs.Prelude.{◌≡◌, ◌^◌, ◌≤◌, pos, map, length, IsSome, IfOk};
+ghost use Rattle.std.specs.Prelude.{◌≡◌, ◌≤◌, pos, map, length, IsSome, IfOk};
 ghost use Rattle.clvm_spec.specs.Tree.{Atom};
 ghost use Rattle.clvm_spec.specs.Numbers.{shortest_atom};
 ghost use Rattle.clvm_spec.specs.Hashing.{tree_hash};
 ghost use Rattle.clvm_spec.specs.Reading.{tree_of};
 ghost use Rattle.clvm_spec.specs.Spelled.{spelled_tree};
-ghost use Rattle.block_form.specs.BundleTree.{spend_tree, spends_tree, signed_tree, attested_tree, bundle_id};
+ghost use Rattle.block_spec.specs.BundleTree.{spend_tree, spends_tree, signed_tree, attested_tree, bundle_id};
 
-use crate::{Bundle, Signed, Spend};
+use block_spec::{Bundle, Signed, Spend};
+use clvm_spec::limits::MOST_SPELLED;
 use clvm_spec::shortest_bytes;
 use clvm_tree::{Hash, ReadFault, Trees, atom_hash, list_hash, pair_hash};
 use coin_facts::{Hash32, OutOfMemory};
@@ -46,7 +47,7 @@ fn spend_hash(alloc: Global, spend: &Spend) -> Result<Hash, OutOfMemory>
 // The hash of the tree that the bytes spell.
 fn spelled_hash(alloc: Global, bytes: &[u8]) -> Result<Hash, OutOfMemory>
     requires spelled { IsSome (tree_of bytes.now) }
-    requires short { length bytes.now ≤ 2 ^ 26 }
+    requires short { length bytes.now ≤ MOST_SPELLED }
     ensures { IfOk result (λ hash. hash ≡ tree_hash (spelled_tree bytes.now)) }
 {
     let mut trees = Trees::new(alloc);

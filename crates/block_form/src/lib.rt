@@ -1,19 +1,12 @@
-//! Spends and bundles as values, with the tree and the id of a bundle.
+//! Spends and bundles in bytes: what they add to a generator, and a bundle's id.
 #![tactic(auto)]
 
-mod attested;
-mod bundle;
 mod hashes;
 mod sizes;
-mod spend;
-mod spends;
 
-pub use attested::{Attested, Signed};
-pub use bundle::Bundle;
+pub use block_spec::{Attested, Block, Bundle, Signed, Spend, Spends};
 pub use hashes::bundle_id;
-pub use sizes::{added_bytes, generator_bytes_law};
-pub use spend::Spend;
-pub use spends::Spends;
+pub use sizes::added_bytes;
 
 #[cfg(test)]
 mod tests;

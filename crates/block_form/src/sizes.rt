@@ -1,12 +1,12 @@
-ghost use Rattle.std.specs.Prelude.{◌≡◌, ◌^◌, ◌<◌, ◌≤◌, pos, List, length, IsSome};
+ghost use Rattle.std.specs.Prelude.{◌≡◌, ◌^◌, ◌<◌, ◌≤◌, pos, length, IsSome};
 ghost use Rattle.clvm_spec.specs.Numbers.{shortest_atom};
 ghost use Rattle.clvm_spec.specs.Spelling.{atom_spelling, spelling};
 ghost use Rattle.clvm_spec.specs.Reading.{tree_of};
 ghost use Rattle.clvm_spec.specs.Spelled.{spelled_tree};
-ghost use Rattle.block_form.specs.Added.{added_bytes, AddsUp};
-ghost use Rattle.block_form.specs.declared.spend.Spend.{Spend};
+ghost use Rattle.block_spec.specs.Added.{added_bytes};
 
-use crate::Spend;
+use block_spec::Spend;
+use clvm_spec::limits::MOST_SPELLED;
 use clvm_spec::shortest_bytes;
 use coin_facts::Hash32;
 
@@ -24,17 +24,12 @@ pub fn added_bytes(spend: &Spend) -> u64
     6 + parent + puzzle + amount + solution
 }
 
-/// The spelling of a list's generator has 5 bytes, and those that each spend adds.
-pub fn generator_bytes_law()
-    ensures { (spends : List Spend) → AddsUp spends }
-{}
-
 // How many bytes the spelling has of the tree that these spell: they are that spelling.
 fn tree_bytes(bytes: &[u8]) -> u64
     requires spelled { IsSome (tree_of bytes.now) }
-    requires short { length bytes.now ≤ 2 ^ 26 }
+    requires short { length bytes.now ≤ MOST_SPELLED }
     ensures value { result ≡ length (spelling (spelled_tree bytes.now)) }
-    ensures few { result ≤ 2 ^ 26 }
+    ensures few { result ≤ MOST_SPELLED }
 {
     bytes.len() as u64
 }

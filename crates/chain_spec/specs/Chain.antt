@@ -2,10 +2,9 @@
 -- the session's seconds is this project's own.
 use Rattle.std.specs.Prelude.{ℕ, List, Bool, Option, None, map, is_some}
 use Rattle.std.specs.List.{find}
-use Rattle.std.specs.Str.{bytes_eq}
 use Rattle.coin_facts.specs.declared.hash32.Hash32.{Hash32}
 use Rattle.coin_facts.specs.declared.coin.Coin.{Coin}
-use Rattle.coin_facts.specs.CoinId.{coin_id}
+use Rattle.coin_facts.specs.IdLists.{has_id}
 use Rattle.chain_spec.specs.declared.chain.Record.{Record}
 use Rattle.chain_spec.specs.declared.chain.Peak.{Peak}
 
@@ -24,13 +23,6 @@ records_of chain = map (start_record chain.seconds) chain.coins
 
 abbrev pub peak_of : Chain → Peak
 peak_of chain = record { height = 0; hash = chain.genesis; seconds = chain.seconds }
-
--- Coins are told apart by their ids.
-abbrev pub is_same_id : Hash32 → Hash32 → Bool
-is_same_id a b = bytes_eq a.bytes b.bytes
-
-abbrev pub has_id : Hash32 → Coin → Bool
-has_id id coin = is_same_id (coin_id coin) id
 
 -- the record of the coin with this id
 abbrev pub look_up : Chain → Hash32 → Option Record

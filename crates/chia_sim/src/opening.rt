@@ -14,12 +14,14 @@ use crate::members::{coin, has, hash, whole};
 use block_form::Bundle;
 use coin_facts::{Hash32, Ids};
 use coin_store::{StartFault, Store};
+use judge_spec::limits::{DEFAULT_MAX_COST, DEFAULT_POOL_COST};
 use pool_core::Pool;
 use pool_spec::Limits;
 use serde_json::Value;
 use std::alloc::Global;
 
-const MOST_BYTES: usize = 65_536;
+/// How many bytes a session has at most so far.
+const MOST_SESSION: usize = 65_536;
 
 /// What a session says: the pool that it opens with, the bundle that it admits, and the ids of the coins that it then
 /// asks for.
@@ -144,8 +146,8 @@ fn default_limits() -> Limits
     ensures { result ≡ default_limits }
 {
     Limits {
-        max_cost: 11_000_000_000,
-        pool_cost: 110_000_000_000,
+        max_cost: DEFAULT_MAX_COST,
+        pool_cost: DEFAULT_POOL_COST,
         reward: 0,
         singleton: Hash32 { bytes: [0; 32] },
     }
@@ -186,7 +188,7 @@ fn of_lines(alloc: Global, lines: &[Value]) -> Result<Opening, FormFault>
 pub(crate) fn open(alloc: Global, input: &[u8]) -> Result<Opening, FormFault>
     ensures { Opens (session_of input.now) result }
 {
-    if input.len() > MOST_BYTES {
+    if input.len() > MOST_SESSION {
         return Err(FormFault::Unbuilt);
     }
     let lines = objects(alloc, input)?;

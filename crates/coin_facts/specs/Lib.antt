@@ -1,1 +1,4 @@
+pub mod Steps
 pub mod CoinId
+pub mod Atoms
+pub mod IdLists

@@ -5,9 +5,11 @@ mod bytes;
 mod coin;
 mod hash32;
 mod ids;
+mod sizes;
 
 pub use bytes::Bytes;
 pub use coin::Coin;
 pub use hash32::Hash32;
 pub use ids::Ids;
+pub use sizes::{HASH_BYTES, KEY_BYTES};
 pub use std::alloc::AllocError as OutOfMemory;

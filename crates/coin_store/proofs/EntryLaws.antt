@@ -9,7 +9,8 @@ use Rattle.coin_facts.specs.declared.coin.Coin.{Coin}
 use Rattle.coin_facts.specs.contracts.hash32.Hash32PartialEq.TheImpl.{eq-value}
 use Rattle.coin_facts.specs.CoinId.{coin_id}
 use Rattle.chain_spec.specs.declared.chain.Record.{Record}
-use Rattle.chain_spec.specs.Chain.{Chain, start_record, is_same_id, has_id, look_up}
+use Rattle.chain_spec.specs.Chain.{Chain, start_record, look_up}
+use Rattle.coin_facts.specs.IdLists.{is_same_id, has_id}
 use Rattle.coin_store.specs.DistinctIds.{HasDistinctIds}
 use Rattle.coin_store.specs.Entries.{entry_of, entries_of}
 

@@ -8,6 +8,7 @@ mod form_list;
 pub mod laws;
 mod place;
 mod reader;
+mod shapes;
 #[cfg(test)]
 mod tests;
 mod word;

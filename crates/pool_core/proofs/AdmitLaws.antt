@@ -3,10 +3,11 @@ use Rattle.std.proofs.Common.{◌≡◌, ℕ, Bool, true, false, ◌==◌, ◌&&
 use Rattle.std.specs.Prelude.{is_none}
 use Rattle.std.specs.List.{list_all}
 use Rattle.std.proofs.lemmas.Bool.Decides.{nat_tests}
-use Rattle.block_form.specs.declared.spend.Spend.{Spend}
-use Rattle.block_form.specs.declared.bundle.Bundle.{Bundle}
+use Rattle.block_spec.specs.declared.spend.Spend.{Spend}
+use Rattle.block_spec.specs.declared.bundle.Bundle.{Bundle}
 use Rattle.chain_spec.specs.Chain.{Chain, is_in_chain}
-use Rattle.chain_spec.specs.Judgement.{judgement, spent_amounts, repeat_behind}
+use Rattle.judge_spec.specs.Judgement.{judgement, spent_amounts}
+use Rattle.coin_facts.specs.IdLists.{repeat_behind}
 use Rattle.pool_spec.specs.Payment.{is_payment}
 use Rattle.pool_spec.specs.Admission.{PoolState, admission, admission_by}
 use Rattle.pool_core.specs.declared.payment.Payment.{Payment}

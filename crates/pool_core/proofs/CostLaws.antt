@@ -5,10 +5,13 @@ use Rattle.std.specs.List.{sum_by}
 use Rattle.std.proofs.lemmas.List.{take_more, at_drop_more, length-take}
 use Rattle.std.proofs.lemmas.List.Sums.{sum_by-append, sum_by-cons}
 use Rattle.std.proofs.lemmas.Bool.Decides.{nat_tests}
-use Rattle.block_form.specs.declared.spend.Spend.{Spend}
-use Rattle.block_form.specs.Added.{added_bytes}
-use Rattle.block_form.proofs.AddedLaws.{adds_up}
-use Rattle.chain_spec.specs.Judgement.{Verdict, Broken, facts_or_none, has_its_puzzle, cost_of, spend_by_spend}
+use Rattle.block_spec.specs.declared.spend.Spend.{Spend}
+use Rattle.block_spec.specs.Added.{added_bytes}
+use Rattle.block_spec.proofs.AddedLaws.{adds_up}
+use Rattle.judge_spec.specs.declared.rule.Rule.{Rule}
+use Rattle.judge_spec.specs.declared.rule.Rule.TheVariants.{WrongPuzzleHash, TooCostly}
+use Rattle.judge_spec.specs.Rules.{number_of}
+use Rattle.judge_spec.specs.Judgement.{Verdict, Broken, facts_or_none, has_its_puzzle, cost_of, spend_by_spend}
 use Rattle.pool_core.specs.Costs.{added_cost, grown_cost}
 
 -- one spend more
@@ -25,14 +28,14 @@ le_from_not_lt a b h = grind (arith, nat_tests)
 
 -- what comes of a spend by the tests of the rules 3 and 5
 abbrev by_tests : Bool → Bool → ℕ → Verdict → Verdict
-by_tests fits over length after = if fits then (if over then Broken 5 length else after) else Broken 3 length
+by_tests fits over length after = if fits then (if over then Broken (number_of TooCostly) length else after) else Broken (number_of WrongPuzzleHash) length
 
-abbrev Outcome : ℕ → ℕ → ℕ → Verdict → Verdict → Result ℕ ℕ → Type 0
+abbrev Outcome : ℕ → ℕ → ℕ → Verdict → Verdict → Result ℕ Rule → Type 0
 Outcome limit all place here next grown =
-    MatchResult grown (λ cost. (cost ≡ all) × (cost ≤ limit) × (here ≡ next)) (λ rule. here ≡ Broken rule place)
+    MatchResult grown (λ cost. (cost ≡ all) × (cost ≤ limit) × (here ≡ next)) (λ rule. here ≡ Broken (number_of rule) place)
 
 outcome : (fits over : Bool) (limit n all place : ℕ) (next : Verdict) → n ≡ all → (over ≡ false → n ≤ limit)
-    → Outcome limit all place (by_tests fits over place next) next (if fits then (if over then Err 5 else Ok n) else Err 3)
+    → Outcome limit all place (by_tests fits over place next) next (if fits then (if over then Err TooCostly else Ok n) else Err WrongPuzzleHash)
 outcome true true limit n all place next e h = refl
 outcome true false limit n all place next e h = (e, h refl, refl)
 outcome false over limit n all place next e h = refl
@@ -42,7 +45,7 @@ one_step : (limit : ℕ) (earlier rest : List Spend) (spend : Spend) (after : Ve
 one_step limit earlier rest spend after =
     let all = cost_of (earlier ++ spend ∷ []) in
     let pushed = cost_of-push earlier spend in
-    subst (λ n. Outcome limit all (length earlier) (spend_by_spend limit earlier (spend ∷ rest) after) (spend_by_spend limit (earlier ++ spend ∷ []) rest after) (if has_its_puzzle spend then (if nat_lt limit n then Err 5 else Ok n) else Err 3)) pushed
+    subst (λ n. Outcome limit all (length earlier) (spend_by_spend limit earlier (spend ∷ rest) after) (spend_by_spend limit (earlier ++ spend ∷ []) rest after) (if has_its_puzzle spend then (if nat_lt limit n then Err TooCostly else Ok n) else Err WrongPuzzleHash)) pushed
     (outcome (has_its_puzzle spend) (nat_lt limit all) limit all all (length earlier) (spend_by_spend limit (earlier ++ spend ∷ []) rest after) refl (le_from_not_lt limit all))
 
 module _ (limit : ℕ) (spends : List Spend) (place : ℕ) (spend : Spend) (after : Verdict) (within : place < length spends) (there : spend ≡ get_or spends place spend) where
@@ -68,8 +71,8 @@ module _ (limit : ℕ) (spends : List Spend) (place : ℕ) (spend : Spend) (afte
   goes_on cost grown is e =
       subst (Outcome limit (cost_of (take (place + 1) spends)) place (walk place) (walk (place + 1))) (sym (e ∙ ap (λ n. grown_cost limit n spend) is)) here_step
 
-  pub stops : (cost rule : ℕ) → cost ≡ cost_of (take place spends) → Err rule ≡ grown_cost limit cost spend
-      → spend_by_spend limit (take place spends) (drop place spends) after ≡ Broken rule place
+  pub stops : (cost : ℕ) (rule : Rule) → cost ≡ cost_of (take place spends) → Err rule ≡ grown_cost limit cost spend
+      → spend_by_spend limit (take place spends) (drop place spends) after ≡ Broken (number_of rule) place
   unfolding walk
   stops cost rule is e =
       subst (Outcome limit (cost_of (take (place + 1) spends)) place (walk place) (walk (place + 1))) (sym (e ∙ ap (λ n. grown_cost limit n spend) is)) here_step

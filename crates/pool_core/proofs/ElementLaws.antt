@@ -1,7 +1,7 @@
 -- What is read of each element of a proper list, element by element.
 use Rattle.std.proofs.Common.{◌≡◌, List, ◌∷◌, Option, Some, None, refl}
 use Rattle.std.specs.Prelude.{option_map, option_and_then}
-use Rattle.chain_spec.specs.AllOf.{all_of}
+use Rattle.coin_facts.specs.Steps.{all_of}
 
 -- what is read of the first, in front of what is read of the others
 abbrev pub with_first : {A : Type 0} → Option A → Option (List A) → Option (List A)

@@ -2,8 +2,8 @@
 use Rattle.std.proofs.Common.{◌≡◌, ℕ, suc, ◌+◌, ◌<◌, Bool, true, false, cond, not, ◌||◌, Some, if◌then◌else◌, List, ◌∷◌, length, drop, get_or, refl, ap, ◌∙◌, add-one, drop-cons}
 use Rattle.std.specs.HashSet.{contains}
 use Rattle.coin_facts.specs.declared.hash32.Hash32.{Hash32}
-use Rattle.chain_spec.specs.Chain.{is_same_id}
-use Rattle.chain_spec.specs.Judgement.{is_among, repeat_behind}
+use Rattle.coin_facts.specs.IdLists.{is_same_id}
+use Rattle.coin_facts.specs.IdLists.{is_among, repeat_behind}
 use Rattle.pool_core.specs.IdSets.{IdSet, HasIds}
 
 -- A new id goes to the earlier ones.
@@ -11,6 +11,12 @@ pub repeat_behind-new : (earlier ids : List Hash32) (place : ℕ) (d : Hash32) �
 repeat_behind-new earlier ids place d h fresh =
     rw (add-one, drop-cons ids place d)
     (ap (λ b. if b then Some place else repeat_behind (get_or ids place d ∷ earlier) (suc place) (drop (suc place) ids)) fresh)
+
+-- An id that is there is the answer.
+pub repeat_behind-old : (earlier ids : List Hash32) (place : ℕ) (d : Hash32) → place < length ids → is_among earlier (get_or ids place d) ≡ true → repeat_behind earlier place (drop place ids) ≡ Some place
+repeat_behind-old earlier ids place d h there =
+    rw (drop-cons ids place d)
+    (ap (λ b. if b then Some place else repeat_behind (get_or ids place d ∷ earlier) (suc place) (drop (suc place) ids)) there)
 
 or_is : (b c : Bool) → cond b true c ≡ (b || c)
 or_is true c = refl
@@ -24,3 +30,7 @@ HasIds-more old new ids id has more q =
 pub new_from_added : (b : Bool) {added : Bool} → added ≡ true → added ≡ not b → b ≡ false
 new_from_added true holds e = cc
 new_from_added false holds e = refl
+
+pub old_from_added : (b : Bool) {added : Bool} → added ≡ false → added ≡ not b → b ≡ true
+old_from_added true holds e = refl
+old_from_added false holds e = cc

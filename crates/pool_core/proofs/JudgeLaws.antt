@@ -5,9 +5,11 @@ use Rattle.std.specs.List.{sum_by, prefix_len}
 use Rattle.std.proofs.lemmas.List.{length-map}
 use Rattle.coin_facts.specs.declared.hash32.Hash32.{Hash32}
 use Rattle.coin_facts.specs.CoinId.{coin_id}
-use Rattle.block_form.specs.declared.spend.Spend.{Spend}
+use Rattle.block_spec.specs.declared.spend.Spend.{Spend}
 use Rattle.chain_spec.specs.Chain.{Chain, is_in_chain}
-use Rattle.chain_spec.specs.Judgement.{Fine, unless_broken, judgement, spent_twice, spend_by_spend, unknown_coin, is_among, coins_made_by, created_coins, created_ids, created_amounts, spent_ids, cost_of, fee_of}
+use Rattle.judge_spec.specs.declared.rule.Rule.TheVariants.{SpentTwice, UnknownCoin}
+use Rattle.judge_spec.specs.Judgement.{Fine, unless_broken, judgement, spent_twice, spend_by_spend, unknown_coin, coins_made_by, created_coins, created_ids, created_amounts, spent_ids, cost_of, fee_of}
+use Rattle.coin_facts.specs.IdLists.{is_among}
 use Rattle.pool_core.specs.declared.payment.Payment.{Payment}
 use Rattle.pool_core.specs.SpendPayments.{payment_of, ArePayments}
 use Rattle.pool_core.specs.PaymentSums.{coins_of_payments, paid_ids, paid_amounts}
@@ -38,11 +40,11 @@ unknown_coin-by_ids chain spends ids e =
     ∙ position-map (λ id. not (is_in_chain chain id || is_among (created_ids spends) id)) (λ spend. coin_id spend.coin) spends
 
 -- Where the first rules hold, the verdict is by rule 11.
-pub judgement-by_unknown : (chain : Chain) (spends : List Spend) (limit cost : ℕ) (unknown : Option ℕ) → None ≡ spent_twice spends → HasCost limit spends cost → unknown ≡ unknown_coin chain spends → judgement chain spends limit ≡ unless_broken 11 unknown (Fine cost (fee_of spends))
+pub judgement-by_unknown : (chain : Chain) (spends : List Spend) (limit cost : ℕ) (unknown : Option ℕ) → None ≡ spent_twice spends → HasCost limit spends cost → unknown ≡ unknown_coin chain spends → judgement chain spends limit ≡ unless_broken UnknownCoin unknown (Fine cost (fee_of spends))
 judgement-by_unknown chain spends limit cost unknown once has is =
-    ap (λ twice. unless_broken 2 twice (spend_by_spend limit [] spends (unless_broken 11 (unknown_coin chain spends) (Fine (cost_of spends) (fee_of spends))))) (sym once)
-    ∙ has.goes_on (unless_broken 11 (unknown_coin chain spends) (Fine (cost_of spends) (fee_of spends)))
-    ∙ ap₂ (λ o n. unless_broken 11 o (Fine n (fee_of spends))) (sym is) (sym has.is)
+    ap (λ twice. unless_broken SpentTwice twice (spend_by_spend limit [] spends (unless_broken UnknownCoin (unknown_coin chain spends) (Fine (cost_of spends) (fee_of spends))))) (sym once)
+    ∙ has.goes_on (unless_broken UnknownCoin (unknown_coin chain spends) (Fine (cost_of spends) (fee_of spends)))
+    ∙ ap₂ (λ o n. unless_broken UnknownCoin o (Fine n (fee_of spends))) (sym is) (sym has.is)
 
 -- The unknown coin is found among the ids of what is spent and made.
 pub unknown_coin-found : (chain : Chain) (spends : List Spend) (payments : List Payment) (spent made : List Hash32) (unknown : Option ℕ) → ArePayments spends payments → spent ≡ spent_ids spends → made ≡ paid_ids payments → unknown ≡ position (λ id. not (is_in_chain chain id || is_among made id)) spent → unknown ≡ unknown_coin chain spends

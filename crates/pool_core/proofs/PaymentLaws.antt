@@ -11,11 +11,13 @@ use Rattle.clvm_spec.specs.Evaluation.{evaluation}
 use Rattle.coin_facts.specs.declared.hash32.Hash32.{Hash32}
 use Rattle.coin_facts.specs.declared.coin.Coin.{Coin}
 use Rattle.coin_facts.specs.CoinId.{coin_id}
-use Rattle.block_form.specs.declared.spend.Spend.{Spend}
+use Rattle.block_spec.specs.declared.spend.Spend.{Spend}
 use Rattle.clvm_spec.specs.Spelled.{spelled_tree}
-use Rattle.chain_spec.specs.Runs.{run_of}
-use Rattle.chain_spec.specs.Conditions.{Condition, CreateCoin, condition_of, conditions_of, cost_of_condition, cost_of_conditions}
-use Rattle.chain_spec.specs.Judgement.{Facts, coin_of, facts_of_run, facts_of, facts_or_none, coins_made_by}
+use Rattle.judge_spec.specs.Runs.{run_of}
+use Rattle.clvm_spec.specs.declared.costs.TheConstants.{QUOTE_COST}
+use Rattle.cond_spec.specs.declared.costs.TheConstants.{CREATE_COIN_COST}
+use Rattle.judge_spec.specs.FirstConditions.{Condition, CreateCoin, condition_of, conditions_of, cost_of_condition, cost_of_conditions}
+use Rattle.judge_spec.specs.Judgement.{Facts, coin_of, facts_of_run, facts_of, facts_or_none, coins_made_by}
 use Rattle.pool_spec.specs.Payment.{is_triple, are_triples, pays}
 use Rattle.pool_core.specs.declared.payment.Payment.{Payment}
 use Rattle.pool_core.specs.Payments.{paid_coin, paid_coins, quoted_coins}
@@ -49,12 +51,12 @@ paid_coins-made parent (Pair first rest) =
     ∙ ap (made parent (is_triple first && are_triples rest)) (sym (all_of-more condition_of first (elements rest)))
 
 -- The run of a quoted puzzle is done with what is quoted, whatever the solution.
-quoted_run : (value solution : Tree) → run_of (Pair (Atom (1 ∷ [])) value) solution ≡ Some (record { value = value; cost = 20 })
+quoted_run : (value solution : Tree) → run_of (Pair (Atom (1 ∷ [])) value) solution ≡ Some (record { value = value; cost = QUOTE_COST })
 unfolding evaluation
 quoted_run value solution = refl
 
 abbrev pub facts_with : List Condition → Facts
-facts_with conditions = record { cost = 20 + cost_of_conditions conditions; conditions = conditions }
+facts_with conditions = record { cost = QUOTE_COST + cost_of_conditions conditions; conditions = conditions }
 
 -- What a puzzle says that pays: its conditions, and the coins that are read of it.
 pub record Pays (parent : Hash32) (puzzle solution : Tree) : Type 0 where
@@ -138,7 +140,7 @@ payment_at-read spend tree found read e =
     let spelled : spelled_tree spend.puzzle ≡ tree = ap (λ t. unwrap_or t nil) read in
     subst (IsPayment spend) (sym (e ∙ ap (payment_at spend.coin) (sym spelled))) (payment_at-is spend)
 
-cost_of_conditions-is : (conditions : List Condition) → cost_of_conditions conditions ≡ 1_800_000 * length conditions
+cost_of_conditions-is : (conditions : List Condition) → cost_of_conditions conditions ≡ CREATE_COIN_COST * length conditions
 cost_of_conditions-is [] = refl
 cost_of_conditions-is (CreateCoin hash amount ∷ conditions) =
     let one_more = sum_by-cons cost_of_condition (CreateCoin hash amount) conditions in
@@ -151,12 +153,12 @@ length-map_is f [] = refl
 length-map_is f (x ∷ xs) = ap suc (length-map_is f xs)
 
 -- what the run of a paying puzzle and its conditions cost
-pub paying_cost : (spend : Spend) → is_paying spend ≡ true → (facts_or_none spend).cost ≡ 20 + 1_800_000 * length (coins_made_by spend)
+pub paying_cost : (spend : Spend) → is_paying spend ≡ true → (facts_or_none spend).cost ≡ QUOTE_COST + CREATE_COIN_COST * length (coins_made_by spend)
 paying_cost spend pays =
     elim (is_puzzle (coin_id spend.coin) (spelled_tree spend.puzzle) (spelled_tree spend.solution)) [
       | paying p ↦
           let facts = facts_or_none-is spend p.conditions p.facts in
           let long : length (coins_made_by spend) ≡ length p.conditions = ap (λ f. length (map (coin_of (coin_id spend.coin)) f.conditions)) facts ∙ length-map_is (coin_of (coin_id spend.coin)) p.conditions in
-          ap (λ f. f.cost) facts ∙ ap (λ n. 20 + n) (cost_of_conditions-is p.conditions ∙ ap (λ n. 1_800_000 * n) (sym long))
+          ap (λ f. f.cost) facts ∙ ap (λ n. QUOTE_COST + n) (cost_of_conditions-is p.conditions ∙ ap (λ n. CREATE_COIN_COST * n) (sym long))
       | other p ↦ absurd (false≢true (sym p.pays ∙ pays))
     ]

@@ -4,8 +4,8 @@ use Rattle.std.specs.HashSet.{HashSet, contains}
 use Rattle.std.specs.declared.hash.FoldHasher.{FoldHasher}
 use Rattle.std.specs.declared.hash.BuildHasherDefault.{BuildHasherDefault}
 use Rattle.coin_facts.specs.declared.hash32.Hash32.{Hash32}
-use Rattle.chain_spec.specs.Chain.{is_same_id}
-use Rattle.chain_spec.specs.Judgement.{is_among}
+use Rattle.coin_facts.specs.IdLists.{is_same_id}
+use Rattle.coin_facts.specs.IdLists.{is_among}
 
 abbrev pub IdSet : Type 0
 IdSet = HashSet Hash32 (BuildHasherDefault FoldHasher)

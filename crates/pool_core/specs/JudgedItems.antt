@@ -1,10 +1,10 @@
 -- What a pool keeps of its bundles: each is Fine on the pool's chain, with its cost and its fee. This project's own.
 use Rattle.std.specs.Prelude.{◌≡◌, List, map}
 use Rattle.std.specs.List.{AllByRecursion}
-use Rattle.block_form.specs.declared.bundle.Bundle.{Bundle}
+use Rattle.block_spec.specs.declared.bundle.Bundle.{Bundle}
 use Rattle.chain_spec.specs.Chain.{Chain}
-use Rattle.chain_spec.specs.Judgement.{Fine, judgement}
-use Rattle.chain_spec.specs.declared.limits.Limits.{Limits}
+use Rattle.judge_spec.specs.Judgement.{Fine, judgement}
+use Rattle.judge_spec.specs.declared.limits.Limits.{Limits}
 use Rattle.pool_core.specs.ItemView.{ItemView}
 
 abbrev pub IsJudged : Chain → Limits → ItemView → Type 0

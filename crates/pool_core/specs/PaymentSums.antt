@@ -4,9 +4,10 @@ use Rattle.std.specs.List.{sum_by, flat_map, list_all}
 use Rattle.coin_facts.specs.declared.hash32.Hash32.{Hash32}
 use Rattle.coin_facts.specs.declared.coin.Coin.{Coin}
 use Rattle.coin_facts.specs.CoinId.{coin_id}
-use Rattle.block_form.specs.declared.spend.Spend.{Spend}
+use Rattle.block_spec.specs.declared.spend.Spend.{Spend}
 use Rattle.chain_spec.specs.Chain.{Chain, is_in_chain}
-use Rattle.chain_spec.specs.Judgement.{repeat_behind, spent_amounts}
+use Rattle.judge_spec.specs.Judgement.{spent_amounts}
+use Rattle.coin_facts.specs.IdLists.{repeat_behind}
 use Rattle.pool_core.specs.declared.payment.Payment.{Payment}
 
 abbrev pub coins_of_payments : List Payment → List Coin

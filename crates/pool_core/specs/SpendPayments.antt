@@ -5,9 +5,9 @@ use Rattle.clvm_spec.specs.Tree.{Tree}
 use Rattle.clvm_spec.specs.Hashing.{tree_hash}
 use Rattle.coin_facts.specs.declared.coin.Coin.{Coin}
 use Rattle.coin_facts.specs.CoinId.{coin_id}
-use Rattle.block_form.specs.declared.spend.Spend.{Spend}
+use Rattle.block_spec.specs.declared.spend.Spend.{Spend}
 use Rattle.clvm_spec.specs.Spelled.{spelled_tree}
-use Rattle.chain_spec.specs.Judgement.{coins_made_by}
+use Rattle.judge_spec.specs.Judgement.{coins_made_by}
 use Rattle.pool_spec.specs.Payment.{pays}
 use Rattle.pool_core.specs.declared.payment.Payment.{Payment}
 use Rattle.pool_core.specs.Payments.{quoted_coins}

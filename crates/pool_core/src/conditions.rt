@@ -5,18 +5,17 @@ ghost use Rattle.clvm_spec.specs.Tree.{list_tree};
 ghost use Rattle.clvm_spec.specs.Evaluation.{is_code};
 ghost use Rattle.clvm_spec.specs.Operators.{is_nil};
 ghost use Rattle.clvm_tree.specs.Nodes.{tree_at, IsKnown};
-ghost use Rattle.chain_spec.specs.Conditions.{hash_of, amount_of};
+ghost use Rattle.coin_facts.specs.Atoms.{hash_of, amount_of};
 ghost use Rattle.pool_spec.specs.Payment.{is_triple};
 ghost use Rattle.pool_core.specs.Payments.{paid_coin, paid_coins};
 ghost use Rattle.pool_core.specs.Triples.{IsTripleOf};
 
-use crate::coins::Coins;
+use crate::coin_list::CoinList;
 use crate::operands::{amount_of, hash_of};
 use clvm_tree::{Node, Trees};
 use coin_facts::{Coin, Hash32, OutOfMemory};
+use cond_spec::codes::CREATE_COIN;
 use std::alloc::Global;
-
-const CREATE_COIN: u8 = 51;
 
 // Whether a node is the atom of this one byte.
 pub(crate) fn is_code(trees: &Trees, node: Node, code: u8) -> bool
@@ -96,11 +95,11 @@ pub(crate) fn coins(
     trees: &Trees,
     value: Node,
     parent: Hash32,
-) -> Result<Option<Coins>, OutOfMemory>
+) -> Result<Option<CoinList>, OutOfMemory>
     requires { IsKnown trees.now value.0 }
     ensures { IfOk result (λ found. found ≡ paid_coins parent (tree_at trees.now value.0)) }
 {
-    let mut coins = Coins::new(alloc);
+    let mut coins = CoinList::new(alloc);
     let mut rest = value;
     while let Some((condition, next)) = trees.as_pair(rest) {
         let Some(coin) = coin(trees, condition, parent) else {

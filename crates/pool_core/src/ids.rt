@@ -3,8 +3,10 @@ ghost use Rattle.std.specs.Prelude.{◌≡◌, ◌||◌, ◌++◌, [], map, not,
 ghost use Rattle.std.specs.List.{list_all};
 ghost use Rattle.std.specs.HashSet.{contains};
 ghost use Rattle.coin_facts.specs.CoinId.{coin_id};
-ghost use Rattle.chain_spec.specs.Chain.{is_same_id, is_in_chain};
-ghost use Rattle.chain_spec.specs.Judgement.{is_among, repeat_behind, spent_ids};
+ghost use Rattle.chain_spec.specs.Chain.{is_in_chain};
+ghost use Rattle.coin_facts.specs.IdLists.{is_same_id};
+ghost use Rattle.judge_spec.specs.Judgement.{spent_ids};
+ghost use Rattle.coin_facts.specs.IdLists.{is_among, repeat_behind};
 ghost use Rattle.pool_core.specs.IdSets.{HasIds};
 ghost use Rattle.pool_core.specs.PaymentSums.{paid_ids};
 

@@ -1,7 +1,8 @@
 ghost use Rattle.std.specs.Prelude.{◌≡◌, ◌+◌, ◌<◌, ◌≤◌, ◌^◌, true, [], length, IfOk, IfErr};
 ghost use Rattle.std.specs.List.{list_all};
-ghost use Rattle.chain_spec.specs.Judgement.{Verdict, Broken, judgement, spend_by_spend};
-ghost use Rattle.chain_spec.specs.Judgement as judged;
+ghost use Rattle.judge_spec.specs.Judgement.{Verdict, Broken, judgement, spend_by_spend};
+ghost use Rattle.judge_spec.specs.Judgement as judged;
+ghost use Rattle.judge_spec.specs.Rules.{number_of};
 ghost use Rattle.pool_core.specs.SpendPayments.{is_paying, payment_of, ArePayments};
 ghost use Rattle.pool_core.specs.Costs.{added_cost, grown_cost, HasCost};
 ghost use Rattle.pool_core.specs.Verdicts.{IsRefusal};
@@ -12,16 +13,17 @@ use crate::ids::{created_ids, first_repeat, first_unknown, spent_ids};
 use crate::payment::{Payment, payments};
 use crate::sums::{created_amount, spent_amount};
 use block_form::{Spend, added_bytes};
+use block_spec::EMPTY_GENERATOR_BYTES;
+use clvm_spec::costs::QUOTE_COST;
 use coin_store::Store;
+use cond_spec::costs::CREATE_COIN_COST;
+use judge_spec::Rule;
+use judge_spec::costs::BYTE_COST;
+use judge_spec::limits::GREATEST_MAX_COST;
 use std::alloc::Global;
 
-const BYTE_COST: u64 = 12_000;
-// The generator of no spend has five bytes.
-const BASE_COST: u64 = 60_000;
-
-const QUOTE_COST: u64 = 20;
-
-const CREATE_COIN_COST: u64 = 1_800_000;
+// What a list without spends costs: the bytes of its generator.
+const BASE_COST: u64 = BYTE_COST * EMPTY_GENERATOR_BYTES;
 
 /// What a list of spends costs, and the fee that it leaves.
 #[derive(Clone, Copy, Debug)]
@@ -33,16 +35,16 @@ pub(crate) struct Fine {
 /// The rule that is broken, and at which spend.
 #[derive(Clone, Copy, Debug)]
 struct Breach {
-    rule: u8,
+    rule: Rule,
     place: u32,
 }
 
 impl From<Breach> for AdmitFault {
-    ghost from_gives = { λ breach fault. fault ≡ admit_fault.Refused breach.rule breach.place };
+    ghost from_gives = { λ breach fault. fault ≡ admit_fault.Refused (number_of breach.rule) breach.place };
 
     fn from(breach: Breach) -> AdmitFault {
         AdmitFault::Refused {
-            rule: breach.rule,
+            rule: breach.rule.number(),
             place: breach.place,
         }
     }
@@ -56,30 +58,34 @@ fn added_cost(spend: &Spend, payment: &Payment) -> u64
     ensures small { result < 2 ^ 60 }
 {
     let coins = payment.created.as_slice().len() as u64;
-    BYTE_COST * added_bytes(spend) + (QUOTE_COST + CREATE_COIN_COST * coins)
+    BYTE_COST * added_bytes(spend) + (u64::from(QUOTE_COST) + CREATE_COIN_COST * coins)
 }
 
 // The cost with one spend more, or the rule that is broken at it.
-fn grown_cost(spend: &Spend, payment: &Payment, cost: u64, limit: u64) -> Result<u64, u8>
+fn grown_cost(spend: &Spend, payment: &Payment, cost: u64, limit: u64) -> Result<u64, Rule>
     requires pays { is_paying spend.now ≡ true }
     requires payment { payment.now ≡ payment_of spend.now }
     requires small { cost < 2 ^ 60 }
     ensures { result ≡ grown_cost limit cost spend.now }
 {
     if payment.puzzle_hash != spend.coin.puzzle_hash {
-        return Err(3);
+        return Err(Rule::WrongPuzzleHash);
     }
     let grown = cost + added_cost(spend, payment);
-    if grown > limit { Err(5) } else { Ok(grown) }
+    if grown > limit {
+        Err(Rule::TooCostly)
+    } else {
+        Ok(grown)
+    }
 }
 
 // The rules 3 and 5, spend by spend; the cost where neither is broken.
 fn list_cost(spends: &[Spend], payments: &[Payment], limit: u64) -> Result<u64, Breach>
-    requires limit { limit ≤ 22_000_000_000 }
+    requires limit { limit ≤ GREATEST_MAX_COST }
     requires few { length spends.now < 2 ^ 32 }
     requires payments { ArePayments spends.now payments.now }
     ensures ok { IfOk result (HasCost limit spends.now) }
-    ensures err { IfErr result (λ breach. (after : Verdict) → spend_by_spend limit [] spends.now after ≡ Broken breach.rule breach.place) }
+    ensures err { IfErr result (λ breach. (after : Verdict) → spend_by_spend limit [] spends.now after ≡ Broken (number_of breach.rule) breach.place) }
 {
     let mut cost = BASE_COST;
     for (place, spend) in spends.iter().enumerate() {
@@ -103,7 +109,7 @@ pub(crate) fn judge(
     spends: &[Spend],
     limit: u64,
 ) -> Result<Fine, AdmitFault>
-    requires limit { limit ≤ 22_000_000_000 }
+    requires limit { limit ≤ GREATEST_MAX_COST }
     requires few { length spends.now < 2 ^ 32 }
     requires pays { list_all is_paying spends.now ≡ true }
     ensures ok { IfOk result (λ fine. judgement store.now spends.now limit ≡ judged.Fine fine.cost fine.fee) }
@@ -114,7 +120,7 @@ pub(crate) fn judge(
     let spent = spent_ids(alloc, spends)?;
     if let Some(place) = first_repeat(alloc, &spent)? {
         return Err(AdmitFault::Refused {
-            rule: 2,
+            rule: Rule::SpentTwice.number(),
             place: place as u32,
         });
     }
@@ -125,7 +131,7 @@ pub(crate) fn judge(
     let created = created_ids(alloc, &payments)?;
     if let Some(place) = first_unknown(alloc, store, &spent, &created)? {
         return Err(AdmitFault::Refused {
-            rule: 11,
+            rule: Rule::UnknownCoin.number(),
             place: place as u32,
         });
     }

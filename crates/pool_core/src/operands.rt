@@ -2,10 +2,10 @@
 ghost use Rattle.std.specs.Prelude.{◌≡◌, ◌^◌, Some, None, nat_lt, if◌then◌else◌};
 ghost use Rattle.clvm_spec.specs.Tree.{Atom};
 ghost use Rattle.clvm_spec.specs.Numbers.{unsigned};
-ghost use Rattle.chain_spec.specs.Conditions.{hash_of, amount_of};
+ghost use Rattle.coin_facts.specs.Atoms.{hash_of, amount_of};
 
 use clvm_spec::shortest_bytes;
-use coin_facts::Hash32;
+use coin_facts::{HASH_BYTES, Hash32};
 
 // The number of big-endian digits, None from 2^64 on.
 fn unsigned(bytes: &[u8]) -> Option<u64>
@@ -38,10 +38,10 @@ pub(crate) fn amount_of(bytes: &[u8]) -> Option<u64>
 pub(crate) fn hash_of(bytes: &[u8]) -> Option<Hash32>
     ensures { result ≡ hash_of (Atom bytes.now) }
 {
-    if bytes.len() != 32 {
+    if bytes.len() != HASH_BYTES {
         return None;
     }
-    let mut hash = [0; 32];
+    let mut hash = [0; HASH_BYTES];
     hash.copy_from_slice(bytes);
     Some(Hash32 { bytes: hash })
 }

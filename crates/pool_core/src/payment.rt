@@ -3,7 +3,7 @@ ghost use Rattle.std.specs.List.{list_all};
 ghost use Rattle.clvm_tree.specs.Nodes.{tree_at, IsKnown};
 ghost use Rattle.pool_core.specs.SpendPayments.{payment_at, is_paying, IsPayment, ArePayments};
 
-use crate::coins::Coins;
+use crate::coin_list::CoinList;
 use crate::conditions::{coins, is_code};
 use block_form::Spend;
 use clvm_tree::{Node, ReadFault, Trees};
@@ -16,7 +16,7 @@ const QUOTE: u8 = 1;
 #[derive(Debug, Drop)]
 pub(crate) struct Payment {
     pub(crate) puzzle_hash: Hash32,
-    pub(crate) created: Coins,
+    pub(crate) created: CoinList,
 }
 
 // The payment of a puzzle that is read, None where it is none.

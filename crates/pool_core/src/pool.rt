@@ -16,6 +16,7 @@ use crate::sums::{created_amount, spent_amount};
 use block_form::{Bundle, Spend, bundle_id};
 use coin_facts::{Hash32, Ids, OutOfMemory};
 use coin_store::Store;
+use judge_spec::Rule;
 use pool_spec::Limits;
 use std::alloc::Global;
 use std::marker::Model;
@@ -121,7 +122,10 @@ impl Pool {
             limits.max_cost,
         )?;
         if cost > limits.pool_cost {
-            return Err(AdmitFault::Refused { rule: 34, place: 0 });
+            return Err(AdmitFault::Refused {
+                rule: Rule::PoolIsFull.number(),
+                place: 0,
+            });
         }
         let id = bundle_id(alloc, &bundle)?;
         self.enter(Item::new(bundle, fee, cost))?;

@@ -3,11 +3,13 @@
 use Rattle.std.specs.Prelude.{ℕ, ◌+◌, List, [], ◌∷◌, ◌++◌, nat_lt, if◌then◌else◌}
 use Rattle.std.specs.List.{sum_by}
 use Rattle.coin_facts.specs.declared.hash32.Hash32.{Hash32}
-use Rattle.block_form.specs.declared.bundle.Bundle.{Bundle}
-use Rattle.block_form.specs.BundleTree.{bundle_id}
+use Rattle.block_spec.specs.declared.bundle.Bundle.{Bundle}
+use Rattle.block_spec.specs.BundleTree.{bundle_id}
 use Rattle.chain_spec.specs.Chain.{Chain}
-use Rattle.chain_spec.specs.Judgement.{Verdict, Fine, Broken, cost_of, judgement}
-use Rattle.chain_spec.specs.declared.limits.Limits.{Limits}
+use Rattle.judge_spec.specs.Judgement.{Verdict, Fine, Broken, cost_of, judgement}
+use Rattle.judge_spec.specs.declared.limits.Limits.{Limits}
+use Rattle.judge_spec.specs.declared.rule.Rule.TheVariants.{PoolIsFull}
+use Rattle.judge_spec.specs.Rules.{number_of}
 
 -- a chain, its limits, and the bundles in the order in which they were admitted
 pub record PoolState : Type 0 where
@@ -27,7 +29,7 @@ cost_of_bundles bundles = sum_by (λ bundle. cost_of bundle.spends) bundles
 -- Rule 34: with this bundle the pool would cost more than it may.
 abbrev pub within_capacity : PoolState → Bundle → ℕ → ℕ → Admission
 within_capacity state bundle cost fee =
-    if nat_lt state.limits.pool_cost (cost_of_bundles state.bundles + cost) then Refused 34 0 else Admitted (bundle_id bundle) fee cost []
+    if nat_lt state.limits.pool_cost (cost_of_bundles state.bundles + cost) then Refused (number_of PoolIsFull) 0 else Admitted (bundle_id bundle) fee cost []
 
 abbrev pub admission_by : PoolState → Bundle → Verdict → Admission
 admission_by state bundle (Fine cost fee) = within_capacity state bundle cost fee

@@ -1,7 +1,7 @@
 -- The legal histories of a session. Source: this project's own.
 use Rattle.std.specs.Prelude.{◌≡◌, ℕ, suc, ◌⊎◌, List, [], ◌∷◌}
 use Rattle.chain_spec.specs.Chain.{Chain}
-use Rattle.chain_spec.specs.declared.limits.Limits.{Limits}
+use Rattle.judge_spec.specs.declared.limits.Limits.{Limits}
 use Rattle.pool_spec.specs.Admission.{PoolState}
 use Rattle.pool_spec.specs.Step.{Command, Admit, LookUp, Reply, Memory, reply_to, after}
 

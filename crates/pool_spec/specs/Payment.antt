@@ -3,13 +3,14 @@
 use Rattle.std.specs.Prelude.{◌&&◌, ◌==◌, List, [], length, nat_lt, nat_le, Bool, true, false, not, is_some, is_none}
 use Rattle.std.specs.List.{list_all}
 use Rattle.clvm_spec.specs.Tree.{Tree, Atom, Pair}
-use Rattle.block_form.specs.declared.spend.Spend.{Spend}
-use Rattle.block_form.specs.declared.bundle.Bundle.{Bundle}
+use Rattle.block_spec.specs.declared.spend.Spend.{Spend}
+use Rattle.block_spec.specs.declared.bundle.Bundle.{Bundle}
 use Rattle.clvm_spec.specs.Spelled.{spelled_tree}
 use Rattle.clvm_spec.specs.Evaluation.{is_code}
 use Rattle.chain_spec.specs.Chain.{Chain, is_in_chain}
-use Rattle.chain_spec.specs.Conditions.{conditions_of}
-use Rattle.chain_spec.specs.Judgement.{created_ids, created_amounts, spent_amounts, repeat_behind}
+use Rattle.judge_spec.specs.FirstConditions.{conditions_of}
+use Rattle.judge_spec.specs.Judgement.{created_ids, created_amounts, spent_amounts}
+use Rattle.coin_facts.specs.IdLists.{repeat_behind}
 
 -- a proper list of three
 abbrev pub is_triple : Tree → Bool

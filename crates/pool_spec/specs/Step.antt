@@ -1,7 +1,7 @@
 -- One command on a pool. Source: this project's own.
 use Rattle.std.specs.Prelude.{Option, Some, None}
 use Rattle.coin_facts.specs.declared.hash32.Hash32.{Hash32}
-use Rattle.block_form.specs.declared.bundle.Bundle.{Bundle}
+use Rattle.block_spec.specs.declared.bundle.Bundle.{Bundle}
 use Rattle.chain_spec.specs.declared.chain.Record.{Record}
 use Rattle.chain_spec.specs.Chain.{look_up}
 use Rattle.pool_spec.specs.Admission.{PoolState, Admission, admission, after_admission}

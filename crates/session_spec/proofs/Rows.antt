@@ -11,7 +11,7 @@ use Rattle.sha2.specs.Sha256.{sha256, digest_bytes, hash_after, compress, rounds
 use Rattle.clvm_spec.specs.Reading.{head_at, tree_at_front}
 use Rattle.clvm_spec.specs.Numbers.{without_sign_bytes, shortest_atom}
 use Rattle.clvm_spec.specs.Evaluation.{evaluation}
-use Rattle.block_form.specs.BundleTree.{bundle_id}
+use Rattle.block_spec.specs.BundleTree.{bundle_id}
 use Rattle.pool_spec.specs.Admission.{PoolState}
 use Rattle.pool_spec.specs.Step.{Command, reply_to, after}
 use Rattle.pool_spec.specs.History.{Entry, opening}

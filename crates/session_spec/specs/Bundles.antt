@@ -2,8 +2,8 @@
 use Rattle.std.specs.Prelude.{List, [], ◌∷◌, Option, Some, None, codes}
 use Rattle.serde_json.specs.Data.{Data, Items, no_items, item}
 use Rattle.serde_json.specs.Find.{get, as_array}
-use Rattle.block_form.specs.declared.spend.Spend.{Spend}
-use Rattle.block_form.specs.declared.bundle.Bundle.{Bundle}
+use Rattle.block_spec.specs.declared.spend.Spend.{Spend}
+use Rattle.block_spec.specs.declared.bundle.Bundle.{Bundle}
 use Rattle.session_spec.specs.Steps.{◌>>=◌, all_of}
 use Rattle.session_spec.specs.Members.{member, code, coin}
 

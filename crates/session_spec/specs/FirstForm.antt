@@ -7,9 +7,11 @@ use Rattle.serde_json.specs.Find.{as_str}
 use Rattle.coin_facts.specs.declared.hash32.Hash32.{Hash32}
 use Rattle.coin_facts.specs.declared.coin.Coin.{Coin}
 use Rattle.coin_facts.specs.CoinId.{coin_id}
-use Rattle.block_form.specs.declared.bundle.Bundle.{Bundle}
+use Rattle.block_spec.specs.declared.bundle.Bundle.{Bundle}
 use Rattle.chain_spec.specs.Chain.{Chain, is_in_chain}
-use Rattle.chain_spec.specs.declared.limits.Limits.{Limits}
+use Rattle.judge_spec.specs.declared.limits.Limits.{Limits}
+use Rattle.judge_spec.specs.declared.limits.TheConstants.{DEFAULT_MAX_COST, DEFAULT_POOL_COST}
+use Rattle.coin_facts.specs.declared.sizes.TheConstants.{HASH_BYTES}
 use Rattle.pool_spec.specs.Payment.{is_payment}
 use Rattle.pool_spec.specs.Step.{Admit, LookUp}
 use Rattle.pool_spec.specs.History.{Session}
@@ -66,7 +68,7 @@ asked_by line = if does (codes "coin") line then member (codes "id") hash line e
 
 -- the limits of a session that says nothing of them
 abbrev pub default_limits : Limits
-default_limits = record { max_cost = 11_000_000_000; pool_cost = 110_000_000_000; reward = 0; singleton = record { bytes = repeat 32 (0 ∷ []) } }
+default_limits = record { max_cost = DEFAULT_MAX_COST; pool_cost = DEFAULT_POOL_COST; reward = 0; singleton = record { bytes = repeat HASH_BYTES (0 ∷ []) } }
 
 abbrev pub session : Chain → Bundle → List Hash32 → Session
 session chain bundle ids = record { chain = chain; limits = default_limits; commands = Admit bundle ∷ map LookUp ids }

@@ -4,6 +4,7 @@ use Rattle.std.specs.Result.{result_ok}
 use Rattle.hex.specs.Hex.{decode_of, decode_sized}
 use Rattle.serde_json.specs.Data.{Data}
 use Rattle.serde_json.specs.Find.{get, as_number, as_str, as_u64}
+use Rattle.coin_facts.specs.declared.sizes.TheConstants.{HASH_BYTES}
 use Rattle.coin_facts.specs.declared.hash32.Hash32.{Hash32}
 use Rattle.coin_facts.specs.declared.coin.Coin.{Coin}
 use Rattle.clvm_spec.specs.Spelled.{if_spelled}
@@ -29,7 +30,7 @@ bytes value = as_str value >>= text_bytes
 
 -- the same of 32 bytes
 abbrev pub text_hash : List ℕ → Option Hash32
-text_hash text = option_map (λ digits. record { bytes = digits }) (result_ok (decode_sized text 32))
+text_hash text = option_map (λ digits. record { bytes = digits }) (result_ok (decode_sized text HASH_BYTES))
 
 abbrev pub hash : Data → Option Hash32
 hash value = as_str value >>= text_hash

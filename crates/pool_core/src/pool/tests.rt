@@ -6,6 +6,9 @@ use super::*;
 use block_form::{Attested, Signed, Spends};
 use clvm_tree::Trees;
 use coin_facts::{Bytes, Coin};
+use judge_spec::limits::{
+    DEFAULT_MAX_COST, DEFAULT_POOL_COST, GREATEST_MAX_COST, GREATEST_POOL_COST,
+};
 use std::test::Fail;
 
 const ZERO: Hash32 = Hash32 { bytes: [0; 32] };
@@ -100,8 +103,8 @@ fn bundle(alloc: Global, coins: &[(Coin, &[u8])]) -> Result<Bundle, Fail> {
 }
 
 fn limits(max_cost: u64, pool_cost: u64) -> Limits
-    requires list { max_cost ≤ 22_000_000_000 }
-    requires pool { pool_cost ≤ 220_000_000_000 }
+    requires list { max_cost ≤ GREATEST_MAX_COST }
+    requires pool { pool_cost ≤ GREATEST_POOL_COST }
 {
     Limits {
         max_cost,
@@ -112,7 +115,7 @@ fn limits(max_cost: u64, pool_cost: u64) -> Limits
 }
 
 fn ample() -> Limits {
-    limits(11_000_000_000, 110_000_000_000)
+    limits(DEFAULT_MAX_COST, DEFAULT_POOL_COST)
 }
 
 // A pool on a chain with these coins.
@@ -367,6 +370,6 @@ fn other_bundles_are_no_payments(rt: HostRuntime) -> Result<(), Fail> {
     let pays = pool.is_payment(alloc, &signed)?;
     assert!(rt; !pays);
     assert_eq!(rt; pool.store().start_coins().len(), 1);
-    assert_eq!(rt; pool.limits().max_cost, 11_000_000_000);
+    assert_eq!(rt; pool.limits().max_cost, DEFAULT_MAX_COST);
     Ok(())
 }

@@ -1,7 +1,7 @@
 use Rattle.std.proofs.Common.{◌≡◌, map, take, ap, ◌∙◌, arith}
 use Rattle.std.proofs.lemmas.List.{take_all}
 use Rattle.clvm_spec.specs.Hashing.{list_hash, tree_hash}
-use Rattle.block_form.specs.BundleTree.{signed_tree}
+use Rattle.block_spec.specs.BundleTree.{signed_tree}
 use Rattle.block_form.proofs.HashLaws.{list_hash-map}
 use Rattle.block_form.proofs.hashes.attested_hash.Goals as goal
 

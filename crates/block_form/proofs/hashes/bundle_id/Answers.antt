@@ -1,7 +1,7 @@
 use Rattle.std.proofs.Common.{◌≡◌, ◌∷◌, ◌++◌, ap, ◌∙◌}
 use Rattle.sha2.specs.Sha256.{sha256}
 use Rattle.clvm_spec.specs.Hashing.{tree_hash}
-use Rattle.block_form.specs.BundleTree.{spends_tree, attested_tree, bundle_id}
+use Rattle.block_spec.specs.BundleTree.{spends_tree, attested_tree, bundle_id}
 use Rattle.block_form.proofs.hashes.bundle_id.Goals as goal
 
 pub returns : goal.returns

@@ -1,6 +1,6 @@
 use Rattle.std.proofs.Common.{◌≡◌, map, take}
 use Rattle.clvm_spec.specs.Hashing.{tree_hash}
-use Rattle.block_form.specs.BundleTree.{spend_tree}
+use Rattle.block_spec.specs.BundleTree.{spend_tree}
 use Rattle.block_form.proofs.hashes.spends_hash.Given as goal
 
 abbrev pub invariant-loop-spend : goal.invariant-loop-spend

@@ -1,6 +1,6 @@
 use Rattle.std.proofs.Common.{◌≡◌, List, [], drop}
 use Rattle.coin_facts.specs.declared.hash32.Hash32.{Hash32}
-use Rattle.chain_spec.specs.Judgement.{repeat_behind}
+use Rattle.coin_facts.specs.IdLists.{repeat_behind}
 use Rattle.pool_core.specs.IdSets.{HasIds}
 use Rattle.pool_core.proofs.ids.first_repeat.Given as goal
 

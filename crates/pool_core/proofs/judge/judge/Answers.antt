@@ -1,6 +1,8 @@
 use Rattle.std.proofs.Common.{◌≡◌, ℕ, ◌-◌, Option, None, [], ap, ap₂, sym, ◌∙◌}
 use Rattle.std.proofs.lemmas.Option.{MatchOption-at_some}
-use Rattle.chain_spec.specs.Judgement.{Verdict, Fine, unless_broken, repeat_behind, spent_twice, unknown_coin, fee_of}
+use Rattle.judge_spec.specs.declared.rule.Rule.TheVariants.{UnknownCoin}
+use Rattle.judge_spec.specs.Judgement.{Verdict, Fine, Broken, unless_broken, spent_twice, unknown_coin, fee_of}
+use Rattle.coin_facts.specs.IdLists.{repeat_behind}
 use Rattle.pool_core.specs.SpendPayments.{ArePayments}
 use Rattle.pool_core.specs.PaymentSums.{paid_ids, paid_amounts}
 use Rattle.pool_core.proofs.JudgeLaws.{judgement-by_unknown, unknown_coin-found, paid_amounts-created}
@@ -15,8 +17,8 @@ returns-in-Some-3-clause-err c =
     let made : c.deref-5.result.now ≡ paid_ids c.in-Some-2.payments.items = c.deref-5.ensures.value ∙ c.in_ok-created.ensures ∙ ap paid_ids c.deref-3.ensures.value in
     let unknown : c.in_ok-place-2.field-0 ≡ unknown_coin chain spends = unknown_coin-found chain spends _ _ _ _ are (c.deref-4.ensures.value ∙ c.in_ok-spent.ensures) made c.in_ok-place-2.ensures.value in
     let by_unknown = judgement-by_unknown chain spends c.args.limit c.in_ok-cost.cost c.in_ok-place-2.field-0 once c.in_ok-cost.ensures.ok unknown in
-    let verdict : Option ℕ → Verdict = λ o. unless_broken 11 o (Fine c.in_ok-cost.cost (fee_of spends)) in
-    by_unknown ∙ ap verdict c.in-Some-3.is
+    let verdict : Option ℕ → Verdict = λ o. unless_broken UnknownCoin o (Fine c.in_ok-cost.cost (fee_of spends)) in
+    by_unknown ∙ ap verdict c.in-Some-3.is ∙ ap (λ rule. Broken rule c.in-Some-3.place) (sym c.number-in-Some-3.ensures)
 
 pub returns-clause-ok : goal.returns-clause-ok
 returns-clause-ok c =
@@ -27,7 +29,7 @@ returns-clause-ok c =
     let made : c.deref-5.result.now ≡ paid_ids c.in-Some-2.payments.items = c.deref-5.ensures.value ∙ c.in_ok-created.ensures ∙ ap paid_ids c.deref-3.ensures.value in
     let unknown : c.in_ok-place-2.field-0 ≡ unknown_coin chain spends = unknown_coin-found chain spends _ _ _ _ are (c.deref-4.ensures.value ∙ c.in_ok-spent.ensures) made c.in_ok-place-2.ensures.value in
     let by_unknown = judgement-by_unknown chain spends c.args.limit c.in_ok-cost.cost c.in_ok-place-2.field-0 once c.in_ok-cost.ensures.ok unknown in
-    let verdict : Option ℕ → Verdict = λ o. unless_broken 11 o (Fine c.in_ok-cost.cost (fee_of spends)) in
+    let verdict : Option ℕ → Verdict = λ o. unless_broken UnknownCoin o (Fine c.in_ok-cost.cost (fee_of spends)) in
     let made_amount = c.created_amount.ensures ∙ ap paid_amounts c.deref-6.ensures.value ∙ paid_amounts-created spends _ are in
     let fee : c.saturating_sub-fee.result ≡ fee_of spends = c.saturating_sub-fee.ensures ∙ ap₂ ◌-◌ c.spent_amount.ensures.value made_amount in
     by_unknown ∙ ap verdict c.in_default-3.is ∙ ap (Fine c.in_ok-cost.cost) (sym fee)

@@ -2,7 +2,7 @@ use Rattle.std.proofs.Common.{◌≡◌, Some, sym, ap, ◌∙◌, subst, IfOk}
 use Rattle.std.proofs.lemmas.Result.{IfOk-weaker}
 use Rattle.clvm_spec.specs.Reading.{tree_of}
 use Rattle.clvm_tree.specs.Nodes.{tree_at}
-use Rattle.block_form.specs.declared.spend.Spend.{Spend}
+use Rattle.block_spec.specs.declared.spend.Spend.{Spend}
 use Rattle.pool_core.specs.SpendPayments.{payment_at, IsPayment}
 use Rattle.pool_core.proofs.PaymentLaws.{payment_at-read}
 use Rattle.pool_core.proofs.payment.read_payment.Goals as goal

@@ -1,4 +1,0 @@
-pub mod SpendView
-pub mod Attestable
-pub mod BundleTree
-pub mod Added

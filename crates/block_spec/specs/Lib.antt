@@ -1,0 +1,6 @@
+pub mod SpendView
+pub mod Attestable
+pub mod BundleTree
+pub mod Added
+pub mod BlockTree
+pub mod BlockReading

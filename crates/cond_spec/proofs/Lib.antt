@@ -1,0 +1,2 @@
+mod ConditionRows
+mod FaultRows

@@ -1,0 +1,9 @@
+pub mod Operands
+pub mod Parties
+pub mod ConditionTable
+pub mod Conditions
+pub mod Acts
+pub mod Messages
+pub mod Signing
+pub mod Locks
+pub mod ActRules
