@@ -1,4 +1,4 @@
--- Why a text isn't read, as the reader answers it. This project's own.
+-- Why a text isn't read, as the reader answers it. Source: this project's own.
 use Rattle.std.specs.Prelude.{◌≡◌}
 use Rattle.lisp_read.specs.declared.fault.ReadAt.{ReadAt}
 use Rattle.lisp_read.specs.declared.fault.ReadAt.TheVariants.{At, OutOfMemory}

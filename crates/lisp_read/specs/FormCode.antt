@@ -1,4 +1,4 @@
--- Forms as lists: how a form is stored where a type of the program is seen as forms. This project's own.
+-- Forms as lists: how a form is stored where a type of the program is seen as forms. Source: this project's own.
 use Rattle.std.specs.Prelude.{◌≡◌, ℕ, List, [], ◌∷◌, ◌++◌, Option, Some, None, refl, Bool, true, false}
 use Rattle.std.specs.Coded.{Coded, code_by, coded_list, coded_option, coded_ℕ, coded_bool, coded×}
 use Rattle.std.proofs.Common.{◌∙◌, ap, append_assoc}

@@ -1,4 +1,4 @@
--- Laws of the grammar, each proved once for the crates above. They follow from the definitions.
+-- Laws of the grammar, each proved once for the crates above. They follow from the definitions. Source: this project's own.
 use Rattle.std.specs.Prelude.{◌≡◌, ℕ, ◌<◌, List, [], ◌∷◌, ◌++◌, length, drop}
 use Rattle.clvm_spec.specs.Tokens.{Token, Opening, Literal, Took, token_of}
 use Rattle.clvm_spec.specs.Tokens as tokens

@@ -1,5 +1,5 @@
 -- How Chialisp's forms are parsed, where lists are open: what the contracts of the reader's steps say, no part of the grammar.
--- This project's own.
+-- Source: this project's own.
 use Rattle.std.specs.Prelude.{◌≡◌, ℕ, List, Option, None, refl}
 use Rattle.clvm_spec.specs.Tokens.{Token, Took}
 use Rattle.open_lists.specs.declared.fault.Fault.{Fault}

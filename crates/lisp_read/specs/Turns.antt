@@ -1,5 +1,5 @@
 -- How a form is turned round for its drop, so that no pair stands within a first: what the contracts of the drop's steps
--- say, no part of the grammar. This project's own.
+-- say, no part of the grammar. Source: this project's own.
 use Rattle.std.specs.Prelude.{ℕ, ◌+◌, ◌*◌}
 use Rattle.lisp_read.specs.Forms.{Form, Atom, Symbol, Pair}
 

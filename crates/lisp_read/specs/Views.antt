@@ -1,4 +1,4 @@
--- A form of the program as definitions see it: its boxes are seen as the forms in them. This project's own.
+-- A form of the program as definitions see it: its boxes are seen as the forms in them. Source: this project's own.
 use Rattle.lisp_read.specs.Forms as forms
 use Rattle.lisp_read.specs.declared.form.Form.{Form}
 use Rattle.lisp_read.specs.declared.form.Form.TheVariants.{Atom, Symbol, Pair}

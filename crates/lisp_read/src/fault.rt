@@ -1,3 +1,5 @@
+//! Why a text isn't read.
+
 ghost use Rattle.std.specs.Prelude.{◌≡◌};
 ghost use Rattle.lisp_read.specs.declared.fault.ReadAt.TheVariants as read_at;
 

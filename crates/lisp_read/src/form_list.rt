@@ -1,3 +1,5 @@
+//! A list of forms.
+
 ghost use Rattle.std.specs.Prelude.{◌≡◌, ◌==◌, [], ◌∷◌, ◌++◌, length, map, MatchOption, OnOk, OnErr};
 ghost use Rattle.lisp_read.specs.Views.{form_of};
 

@@ -1,3 +1,5 @@
+//! Where a form begins.
+
 /// Where something begins: the number of its text, and its first byte.
 #[derive(Clone, Copy, Debug, PartialEq, Eq, PartialOrd, Ord, Hash)]
 pub struct Place {

@@ -1,3 +1,5 @@
+//! Forms of texts, faults at their places, and long texts.
+
 ghost use Rattle.std.specs.Prelude.{◌≤◌, length};
 
 use crate::{Form, FormBox, OutOfMemory, Parts, Place, ReadAt, ReadKind, Word, forms};

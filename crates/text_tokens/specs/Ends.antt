@@ -1,4 +1,4 @@
--- Where in its text a token stands. This project's own.
+-- Where in its text a token stands. Source: this project's own.
 use Rattle.std.specs.Prelude.{◌≡◌, ℕ, ◌<◌, ◌≤◌, List, length, drop}
 use Rattle.clvm_spec.specs.Places.{place_of}
 use Rattle.clvm_spec.specs.Tokens.{Front, Took, Unread, AtEnd}

@@ -1,4 +1,4 @@
--- What tokens stand for. This project's own.
+-- What tokens stand for. Source: this project's own.
 use Rattle.std.specs.Prelude.{ℕ, List, Result, Ok, Err}
 use Rattle.clvm_spec.specs.declared.scan_kind.ScanKind.{ScanKind}
 use Rattle.clvm_spec.specs.Tokens as tokens

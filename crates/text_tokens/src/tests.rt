@@ -1,3 +1,5 @@
+//! Tokens of all kinds, and faults at their places.
+
 use crate::{Front, HexDigits, ScanKind, Token, first_token};
 use std::alloc::Global;
 
