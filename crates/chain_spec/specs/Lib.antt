@@ -1,1 +1,4 @@
 pub mod Chain
+pub mod Looks
+pub mod Soundness
+pub mod StoreViews

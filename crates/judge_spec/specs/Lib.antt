@@ -1,5 +1,10 @@
 pub mod Rules
 pub mod LimitsView
-pub mod Runs
+pub mod FirstRuns
 pub mod FirstConditions
+pub mod FirstJudgement
+pub mod Facts
+pub mod Locked
+pub mod Checks
 pub mod Judgement
+pub mod BlockJudgement

@@ -13,11 +13,11 @@ use Rattle.coin_facts.specs.declared.coin.Coin.{Coin}
 use Rattle.coin_facts.specs.CoinId.{coin_id}
 use Rattle.block_spec.specs.declared.spend.Spend.{Spend}
 use Rattle.clvm_spec.specs.Spelled.{spelled_tree}
-use Rattle.judge_spec.specs.Runs.{run_of}
+use Rattle.judge_spec.specs.FirstRuns.{run_of}
 use Rattle.clvm_spec.specs.declared.costs.TheConstants.{QUOTE_COST}
 use Rattle.cond_spec.specs.declared.costs.TheConstants.{CREATE_COIN_COST}
 use Rattle.judge_spec.specs.FirstConditions.{Condition, CreateCoin, condition_of, conditions_of, cost_of_condition, cost_of_conditions}
-use Rattle.judge_spec.specs.Judgement.{Facts, coin_of, facts_of_run, facts_of, facts_or_none, coins_made_by}
+use Rattle.judge_spec.specs.FirstJudgement.{Facts, coin_of, facts_of_run, facts_of, facts_or_none, coins_made_by}
 use Rattle.pool_spec.specs.Payment.{is_triple, are_triples, pays}
 use Rattle.pool_core.specs.declared.payment.Payment.{Payment}
 use Rattle.pool_core.specs.Payments.{paid_coin, paid_coins, quoted_coins}

@@ -3,7 +3,7 @@ use Rattle.std.specs.Prelude.{◌≡◌, List, map}
 use Rattle.std.specs.List.{AllByRecursion}
 use Rattle.block_spec.specs.declared.bundle.Bundle.{Bundle}
 use Rattle.chain_spec.specs.Chain.{Chain}
-use Rattle.judge_spec.specs.Judgement.{Fine, judgement}
+use Rattle.judge_spec.specs.FirstJudgement.{Fine, judgement}
 use Rattle.judge_spec.specs.declared.limits.Limits.{Limits}
 use Rattle.pool_core.specs.ItemView.{ItemView}
 

@@ -1,7 +1,7 @@
 ghost use Rattle.std.specs.Prelude.{◌≡◌, ◌+◌, ◌<◌, ◌≤◌, ◌^◌, true, [], length, IfOk, IfErr};
 ghost use Rattle.std.specs.List.{list_all};
-ghost use Rattle.judge_spec.specs.Judgement.{Verdict, Broken, judgement, spend_by_spend};
-ghost use Rattle.judge_spec.specs.Judgement as judged;
+ghost use Rattle.judge_spec.specs.FirstJudgement.{Verdict, Broken, judgement, spend_by_spend};
+ghost use Rattle.judge_spec.specs.FirstJudgement as judged;
 ghost use Rattle.judge_spec.specs.Rules.{number_of};
 ghost use Rattle.pool_core.specs.SpendPayments.{is_paying, payment_of, ArePayments};
 ghost use Rattle.pool_core.specs.Costs.{added_cost, grown_cost, HasCost};

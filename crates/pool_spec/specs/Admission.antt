@@ -6,7 +6,7 @@ use Rattle.coin_facts.specs.declared.hash32.Hash32.{Hash32}
 use Rattle.block_spec.specs.declared.bundle.Bundle.{Bundle}
 use Rattle.block_spec.specs.BundleTree.{bundle_id}
 use Rattle.chain_spec.specs.Chain.{Chain}
-use Rattle.judge_spec.specs.Judgement.{Verdict, Fine, Broken, cost_of, judgement}
+use Rattle.judge_spec.specs.FirstJudgement.{Verdict, Fine, Broken, cost_of, judgement}
 use Rattle.judge_spec.specs.declared.limits.Limits.{Limits}
 use Rattle.judge_spec.specs.declared.rule.Rule.TheVariants.{PoolIsFull}
 use Rattle.judge_spec.specs.Rules.{number_of}
