@@ -1,8 +1,5 @@
 pub mod Rules
 pub mod LimitsView
-pub mod FirstRuns
-pub mod FirstConditions
-pub mod FirstJudgement
 pub mod Facts
 pub mod Locked
 pub mod Checks

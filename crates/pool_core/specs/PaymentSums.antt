@@ -6,7 +6,7 @@ use Rattle.coin_facts.specs.declared.coin.Coin.{Coin}
 use Rattle.coin_facts.specs.CoinId.{coin_id}
 use Rattle.block_spec.specs.declared.spend.Spend.{Spend}
 use Rattle.chain_spec.specs.Chain.{Chain, is_in_chain, ledger_of}
-use Rattle.judge_spec.specs.FirstJudgement.{spent_amounts}
+use Rattle.pool_spec.specs.FirstJudgement.{spent_amounts}
 use Rattle.coin_facts.specs.IdLists.{repeat_behind}
 use Rattle.pool_core.specs.declared.payment.Payment.{Payment}
 

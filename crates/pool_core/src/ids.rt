@@ -5,7 +5,7 @@ ghost use Rattle.std.specs.HashSet.{contains};
 ghost use Rattle.coin_facts.specs.CoinId.{coin_id};
 ghost use Rattle.chain_spec.specs.Chain.{is_in_chain, ledger_of};
 ghost use Rattle.coin_facts.specs.IdLists.{is_same_id};
-ghost use Rattle.judge_spec.specs.FirstJudgement.{spent_ids};
+ghost use Rattle.pool_spec.specs.FirstJudgement.{spent_ids};
 ghost use Rattle.coin_facts.specs.IdLists.{is_among, repeat_behind};
 ghost use Rattle.pool_core.specs.IdSets.{HasIds};
 ghost use Rattle.pool_core.specs.PaymentSums.{paid_ids};

@@ -8,8 +8,8 @@ use Rattle.block_spec.specs.declared.bundle.Bundle.{Bundle}
 use Rattle.clvm_spec.specs.Spelled.{spelled_tree}
 use Rattle.clvm_spec.specs.Evaluation.{is_code}
 use Rattle.chain_spec.specs.Chain.{Chain, is_in_chain, ledger_of}
-use Rattle.judge_spec.specs.FirstConditions.{conditions_of}
-use Rattle.judge_spec.specs.FirstJudgement.{created_ids, created_amounts, spent_amounts}
+use Rattle.pool_spec.specs.FirstConditions.{conditions_of}
+use Rattle.pool_spec.specs.FirstJudgement.{created_ids, created_amounts, spent_amounts}
 use Rattle.coin_facts.specs.IdLists.{repeat_behind}
 
 -- a proper list of three

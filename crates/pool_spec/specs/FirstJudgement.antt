@@ -1,23 +1,23 @@
--- The verdict that is built so far, on payments, which break none of the rules but those below. Source: Chia documentation of the coin
--- set and of the mempool; the numbers of the rules, their order and places, and the cost of a list are this project's own.
+-- The verdict that the pool's body works out so far, on payments alone: they break none of the rules but those below. Source:
+-- this project's own. What stands here goes when the pool judges all conditions.
 use Rattle.std.specs.Prelude.{ℕ, ◌+◌, ◌*◌, ◌-◌, ◌||◌, List, [], ◌∷◌, ◌++◌, length, nat_lt, map, Bool, not, Option, Some, None, option_and_then, option_map, unwrap_or, position, if◌then◌else◌}
 use Rattle.std.specs.List.{sum_by, flat_map}
-use Rattle.std.specs.Str.{bytes_eq}
-use Rattle.clvm_spec.specs.Hashing.{tree_hash}
 use Rattle.coin_facts.specs.declared.hash32.Hash32.{Hash32}
 use Rattle.coin_facts.specs.declared.coin.Coin.{Coin}
 use Rattle.coin_facts.specs.CoinId.{coin_id}
-use Rattle.coin_facts.specs.IdLists.{is_among, repeat_behind}
+use Rattle.coin_facts.specs.IdLists.{is_among}
 use Rattle.block_spec.specs.declared.spend.Spend.{Spend}
 use Rattle.clvm_spec.specs.Spelled.{spelled_tree}
 use Rattle.block_spec.specs.Added.{generator_bytes}
-use Rattle.chain_spec.specs.Chain.{Chain, is_in_chain, ledger_of}
+use Rattle.chain_spec.specs.Chain.{Chain, look_up, is_in_chain, ledger_of}
 use Rattle.judge_spec.specs.declared.costs.TheConstants.{BYTE_COST}
-use Rattle.judge_spec.specs.declared.rule.Rule.{Rule}
-use Rattle.judge_spec.specs.declared.rule.Rule.TheVariants.{SpentTwice, WrongPuzzleHash, TooCostly, UnknownCoin}
+use Rattle.judge_spec.specs.declared.rule.Rule.TheVariants.{SpentTwice, WrongPuzzleHash, TooCostly, UnknownCoin, SpentInChain}
 use Rattle.judge_spec.specs.Rules.{number_of}
-use Rattle.judge_spec.specs.FirstRuns.{Done, run_of}
-use Rattle.judge_spec.specs.FirstConditions.{Condition, CreateCoin, conditions_of, cost_of_conditions}
+use Rattle.judge_spec.specs.Checks.{is_spent}
+pub use Rattle.judge_spec.specs.Facts.{has_its_puzzle}
+pub use Rattle.judge_spec.specs.Judgement.{Verdict, Fine, Broken, unless_broken, spent_twice}
+use Rattle.pool_spec.specs.FirstRuns.{Done, run_of}
+use Rattle.pool_spec.specs.FirstConditions.{Condition, CreateCoin, conditions_of, cost_of_conditions}
 
 -- what a spend's bytes say by themselves: the cost of its run and its conditions, and the conditions
 pub record Facts : Type 0 where
@@ -64,29 +64,12 @@ spent_ids spends = map (λ spend. coin_id spend.coin) spends
 abbrev pub created_ids : List Spend → List Hash32
 created_ids spends = map coin_id (created_coins spends)
 
--- Rule 2: a coin is spent twice; at the second spend of it.
-abbrev pub spent_twice : List Spend → Option ℕ
-spent_twice spends = repeat_behind [] 0 (spent_ids spends)
-
--- Rule 3: the puzzle's tree hash isn't the coin's.
-abbrev pub has_its_puzzle : Spend → Bool
-has_its_puzzle spend = bytes_eq (tree_hash (spelled_tree spend.puzzle)) spend.coin.puzzle_hash.bytes
-
 -- Rule 11: the coin is neither in the chain nor created by the list.
 abbrev pub is_there : Chain → List Spend → Spend → Bool
 is_there chain spends spend = is_in_chain (ledger_of chain) (coin_id spend.coin) || is_among (created_ids spends) (coin_id spend.coin)
 
 abbrev pub unknown_coin : Chain → List Spend → Option ℕ
 unknown_coin chain spends = position (λ spend. not (is_there chain spends spend)) spends
-
-pub data Verdict : Type 0 where
-  Fine : (cost fee : ℕ) → Verdict
-  Broken : (rule place : ℕ) → Verdict
-
--- A rule that is broken somewhere is answered, else what comes after it.
-abbrev pub unless_broken : Rule → Option ℕ → Verdict → Verdict
-unless_broken rule None verdict = verdict
-unless_broken rule (Some place) verdict = Broken (number_of rule) place
 
 -- Rules 3 and 5, spend by spend behind earlier ones: rule 3 before rule 5, which is broken where the cost of the list up
 -- to this spend and with it is over the limit. A run is a part of that cost.
@@ -97,9 +80,18 @@ spend_by_spend limit earlier (spend ∷ spends) verdict =
     then (if nat_lt limit (cost_of (earlier ++ spend ∷ [])) then Broken (number_of TooCostly) (length earlier) else spend_by_spend limit (earlier ++ spend ∷ []) spends verdict)
     else Broken (number_of WrongPuzzleHash) (length earlier)
 
--- the first broken rule with its place, or the cost and the fee; the limit is the most that the list may cost
-abbrev pub judgement : Chain → List Spend → ℕ → Verdict
-judgement chain spends limit =
+-- the verdict but for rule 12; the limit is the most that the list may cost
+abbrev pub payment_verdict : Chain → List Spend → ℕ → Verdict
+payment_verdict chain spends limit =
     unless_broken SpentTwice (spent_twice spends)
     (spend_by_spend limit [] spends
     (unless_broken UnknownCoin (unknown_coin chain spends) (Fine (cost_of spends) (fee_of spends))))
+
+-- Rule 12: the coin is spent in the chain.
+abbrev pub spent_coin : Chain → List Spend → Option ℕ
+spent_coin chain spends = position (λ spend. is_spent (look_up (ledger_of chain) (coin_id spend.coin))) spends
+
+-- The chain is asked for it behind all others.
+abbrev pub unless_spent : Option ℕ → Verdict → Verdict
+unless_spent spent (Fine cost fee) = unless_broken SpentInChain spent (Fine cost fee)
+unless_spent spent (Broken rule place) = Broken rule place
