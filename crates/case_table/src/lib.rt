@@ -5,8 +5,9 @@ pub mod look_up;
 pub mod operator_table;
 pub mod row;
 
+pub use clvm_spec::{costs, op_codes};
 pub use look_up::{find, find_name};
-pub use operator_table::{code_of, name_of, operators};
+pub use operator_table::{code_of, name_of, operators, symbol_code};
 pub use row::{Case, Row};
 
 #[cfg(test)]

@@ -7,6 +7,7 @@ ghost use Rattle.clvm_spec.specs.OperatorTable.{operators as spec_operators, ope
 
 use crate::look_up::find_name;
 use crate::row::Row;
+use crate::{costs, op_codes};
 
 /// The kinds of operands: any, pairs, atoms, numbers, or an atom and numbers. The number of a kind is the constant of
 /// its name.
@@ -28,47 +29,47 @@ macro_rules! operator_rows {
     ($with:ident $arguments:tt) => {
         $with! {
             $arguments
-            (1, "q", 0, 255, 20, ANY, quote)
-            (2, "a", 2, 2, 90, ANY, apply)
-            (3, "i", 3, 3, 33, ANY, choice)
-            (4, "c", 2, 2, 50, ANY, new_pair)
-            (5, "f", 1, 1, 30, PAIRS, first_of)
-            (6, "r", 1, 1, 30, PAIRS, rest_of)
-            (7, "l", 1, 1, 19, ANY, pair_flag)
-            (8, "x", 0, 255, 0, ANY, raised)
-            (9, "=", 2, 2, 117, ATOMS, equal_flag)
-            (10, ">s", 2, 2, 117, ATOMS, bytes_greater_flag)
-            (11, "sha256", 0, 255, 407, ATOMS, hash_of)
-            (12, "substr", 2, 3, 1, ATOM_AND_NUMBERS, part_of)
-            (13, "strlen", 1, 1, 173, ATOMS, length_of)
-            (14, "concat", 0, 255, 142, ATOMS, concat_of)
-            (16, "+", 0, 255, 99, NUMBERS, sum_of)
-            (17, "-", 0, 255, 99, NUMBERS, difference_of)
-            (18, "*", 0, 255, 92, NUMBERS, product_of)
-            (19, "/", 2, 2, 988, NUMBERS, quotient_of)
-            (20, "divmod", 2, 2, 1116, NUMBERS, quotient_and_remainder)
-            (21, ">", 2, 2, 498, NUMBERS, greater_flag)
-            (22, "ash", 2, 2, 596, NUMBERS, shift_of_number)
-            (23, "lsh", 2, 2, 277, NUMBERS, shift_of_bits)
-            (24, "logand", 0, 255, 100, NUMBERS, and_of)
-            (25, "logior", 0, 255, 100, NUMBERS, or_of)
-            (26, "logxor", 0, 255, 100, NUMBERS, xor_of)
-            (27, "lognot", 1, 1, 331, NUMBERS, complement_of)
-            (32, "not", 1, 1, 200, ANY, nil_flag)
-            (33, "any", 0, 255, 200, ANY, any_flag)
-            (34, "all", 0, 255, 200, ANY, all_flag)
+            (QUOTE, "q", 0, 255, QUOTE_COST, ANY, quote)
+            (APPLY, "a", 2, 2, APPLY_COST, ANY, apply)
+            (CHOICE, "i", 3, 3, CHOICE_COST, ANY, choice)
+            (NEW_PAIR, "c", 2, 2, NEW_PAIR_COST, ANY, new_pair)
+            (FIRST, "f", 1, 1, FIRST_COST, PAIRS, first_of)
+            (REST, "r", 1, 1, REST_COST, PAIRS, rest_of)
+            (PAIR_FLAG, "l", 1, 1, PAIR_FLAG_COST, ANY, pair_flag)
+            (RAISE, "x", 0, 255, RAISE_COST, ANY, raised)
+            (EQUAL, "=", 2, 2, EQUAL_COST, ATOMS, equal_flag)
+            (BYTES_GREATER, ">s", 2, 2, BYTES_GREATER_COST, ATOMS, bytes_greater_flag)
+            (HASH, "sha256", 0, 255, HASH_COST, ATOMS, hash_of)
+            (PART, "substr", 2, 3, PART_COST, ATOM_AND_NUMBERS, part_of)
+            (LENGTH, "strlen", 1, 1, LENGTH_COST, ATOMS, length_of)
+            (CONCAT, "concat", 0, 255, CONCAT_COST, ATOMS, concat_of)
+            (SUM, "+", 0, 255, SUM_COST, NUMBERS, sum_of)
+            (DIFFERENCE, "-", 0, 255, DIFFERENCE_COST, NUMBERS, difference_of)
+            (PRODUCT, "*", 0, 255, PRODUCT_COST, NUMBERS, product_of)
+            (QUOTIENT, "/", 2, 2, QUOTIENT_COST, NUMBERS, quotient_of)
+            (DIVISION, "divmod", 2, 2, DIVISION_COST, NUMBERS, quotient_and_remainder)
+            (GREATER, ">", 2, 2, GREATER_COST, NUMBERS, greater_flag)
+            (SHIFT, "ash", 2, 2, SHIFT_COST, NUMBERS, shift_of_number)
+            (BIT_SHIFT, "lsh", 2, 2, BIT_SHIFT_COST, NUMBERS, shift_of_bits)
+            (AND, "logand", 0, 255, AND_COST, NUMBERS, and_of)
+            (OR, "logior", 0, 255, OR_COST, NUMBERS, or_of)
+            (XOR, "logxor", 0, 255, XOR_COST, NUMBERS, xor_of)
+            (COMPLEMENT, "lognot", 1, 1, COMPLEMENT_COST, NUMBERS, complement_of)
+            (NIL_FLAG, "not", 1, 1, NIL_FLAG_COST, ANY, nil_flag)
+            (ANY_FLAG, "any", 0, 255, ANY_FLAG_COST, ANY, any_flag)
+            (ALL_FLAG, "all", 0, 255, ALL_FLAG_COST, ANY, all_flag)
         }
     };
 }
 
 macro_rules! rows {
-    (() $(($code:literal, $name:literal, $low:literal, $high:literal, $cost:literal, $kind:ident, $arm:ident))*) => {
+    (() $(($code:ident, $name:literal, $low:literal, $high:literal, $cost:ident, $kind:ident, $arm:ident))*) => {
         [$(Row {
-            code: $code,
+            code: op_codes::$code,
             name: $name,
             arity_low: $low,
             arity_high: $high,
-            cost: $cost,
+            cost: costs::$cost,
             kind: $kind,
         }),*]
     };
@@ -90,16 +91,16 @@ pub fn operators() -> &'static [Row; 29]
 }
 
 /// A `match` on the code of an operator. The arm of a row is what the macro `$arm` makes of its code, its name, its cost and
-/// the name of its arm, as `$arm!(3, "i", 33, choice)`; `$otherwise` is the arm of all other codes.
+/// the name of its arm, as `$arm!(CHOICE, "i", CHOICE_COST, choice)`; `$otherwise` is the arm of all other codes.
 #[macro_export]
 macro_rules! by_operator {
     ($operator:expr, $arm:ident, $otherwise:expr) => {
         $crate::operator_rows!(by_operator ($operator, $arm, $otherwise))
     };
     (($operator:expr, $arm:ident, $otherwise:expr)
-        $(($code:literal, $name:literal, $low:literal, $high:literal, $cost:literal, $kind:ident, $function:ident))*) => {
+        $(($code:ident, $name:literal, $low:literal, $high:literal, $cost:ident, $kind:ident, $function:ident))*) => {
         match $operator {
-            $($code => $arm!($code, $name, $cost, $function),)*
+            $($crate::op_codes::$code => $arm!($code, $name, $cost, $function),)*
             _ => $otherwise,
         }
     };
@@ -111,7 +112,7 @@ pub fn name_of(code: u8) -> Option<&'static str>
     ensures { option_copied result ≡ option_map (λ row. row.name) (operator_of code) }
 {
     macro_rules! named {
-        ($code:literal, $name:literal, $cost:literal, $function:ident) => {
+        ($code:ident, $name:literal, $cost:ident, $function:ident) => {
             Some($name)
         };
     }
@@ -124,12 +125,22 @@ pub fn code_of(name: &str) -> Option<u8>
     ensures { result ≡ option_map (λ row. row.code) (operator_named name.now) }
 {
     macro_rules! codes {
-        (() $(($code:literal, $name:literal, $low:literal, $high:literal, $cost:literal, $kind:ident, $function:ident))*) => {
+        (() $(($code:ident, $name:literal, $low:literal, $high:literal, $cost:ident, $kind:ident, $function:ident))*) => {
             match name {
-                $($name => Some($code),)*
+                $($name => Some(op_codes::$code),)*
                 _ => None,
             }
         };
     }
     operator_rows!(codes())
+}
+
+/// The code of the operator that these bytes name. What is no text is no operator's name.
+pub fn symbol_code(name: &[u8]) -> Option<u8>
+    ensures { result ≡ option_map (λ row. row.code) (operator_named name.now) }
+{
+    match std::str::from_utf8(name) {
+        Ok(name) => code_of(name),
+        Err(_) => None,
+    }
 }

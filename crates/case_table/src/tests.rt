@@ -1,4 +1,4 @@
-use super::{Row, code_of, find, find_name, name_of, operators};
+use super::{Row, code_of, find, find_name, name_of, operators, symbol_code};
 
 const fn row(code: u8, name: &'static str) -> Row {
     Row {
@@ -40,4 +40,6 @@ fn names_operators(rt: HostRuntime) {
     assert!(rt; name_of(15) == None);
     assert!(rt; code_of("lognot") == Some(27));
     assert!(rt; code_of("softfork") == None);
+    assert!(rt; symbol_code(b"lognot") == Some(27));
+    assert!(rt; symbol_code(b"+\xff") == None);
 }

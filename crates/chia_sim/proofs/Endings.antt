@@ -5,7 +5,8 @@ use Rattle.ports_io.specs.Outside.{Rose}
 use Rattle.session_spec.specs.Texts.{line_feed}
 use Rattle.tool_words.specs.declared.said.Command.{Command}
 use Rattle.tool_words.specs.declared.said.Command.TheVariants as command
-use Rattle.chia_sim.specs.Outside.{Reading, Writing, IsInput, IsTooLong, Writes, WritesLine, FailsToWrite, most_bytes}
+use Rattle.chia_sim.specs.Outside.{Reading, Writing, IsInput, IsTooLong, Writes, WritesLine, FailsToWrite}
+use Rattle.chia_sim.specs.declared.limits.TheConstants.{MOST_INPUT}
 use Rattle.chia_sim.specs.Outputs.{HasOutput, HasFault, IsInForm}
 use Rattle.chia_sim.specs.Headline.{IsOutput, IsFault, Ends, Finished, Refused, NoCommand, ReadFault, WriteFault, NoMemory, TooLong}
 use Rattle.chia_sim.specs.Causes.{IsRun, EndsWith, IsComplete, NamesFault, NamesTooLong}
@@ -33,10 +34,10 @@ taken-le (Some xs) (Some ys) input taken told c =
 input-is : (reading : Reading) (input read : List ℕ) → reading.left ≡ Some input → IsInput reading read → read ≡ input
 input-is reading input read told is = taken_to_end reading.left reading.left_after input read told is.taken is.ended
 
-not-long : (reading : Reading) (input read : List ℕ) → reading.left ≡ Some input → IsInput reading read → most_bytes < length input → ⊥
+not-long : (reading : Reading) (input read : List ℕ) → reading.left ≡ Some input → IsInput reading read → MOST_INPUT < length input → ⊥
 not-long reading input read told is long = omega (arith, long, is.within, ap length (input-is reading input read told is))
 
-long-is : (reading : Reading) (input : List ℕ) → reading.left ≡ Some input → IsTooLong reading → most_bytes < length input
+long-is : (reading : Reading) (input : List ℕ) → reading.left ≡ Some input → IsTooLong reading → MOST_INPUT < length input
 long-is reading input told long = omega (arith, long.1, taken-le reading.left reading.left_after input long.0 told long.2)
 
 same-command : (said : Option Command) (it other : Command) → said ≡ Some it → said ≡ Some other → other ≡ it

@@ -3,7 +3,8 @@
 use Rattle.std.specs.Prelude.{◌≡◌, ℕ, ◌<◌, ◌≤◌, ◌⊎◌, List, length, Option, Some, None}
 use Rattle.ports_io.specs.Outside.{Rose}
 use Rattle.tool_words.specs.declared.said.Command.{Command}
-use Rattle.chia_sim.specs.Outside.{Reading, Writing, most_bytes}
+use Rattle.chia_sim.specs.declared.limits.TheConstants.{MOST_INPUT}
+use Rattle.chia_sim.specs.Outside.{Reading, Writing}
 use Rattle.chia_sim.specs.Outputs.{HasFault, IsInForm}
 
 -- The words are this command, these bytes are left in the source, and neither source nor sink fails.
@@ -20,14 +21,14 @@ EndsWith expected status = (status ≡ expected) ⊎ (status ≡ 5)
 -- A command is done on an input of its form.
 abbrev pub IsComplete : Option Command → Reading → Writing → ℕ → Type 0
 IsComplete said reading writing status =
-    (it : Command) (input : List ℕ) → IsRun said it reading writing input → length input ≤ most_bytes → IsInForm it input → EndsWith 0 status
+    (it : Command) (input : List ℕ) → IsRun said it reading writing input → length input ≤ MOST_INPUT → IsInForm it input → EndsWith 0 status
 
 -- An input that isn't too long and not of the command's form is named so.
 abbrev pub NamesFault : Option Command → Reading → Writing → ℕ → Type 0
 NamesFault said reading writing status =
-    (it : Command) (input words : List ℕ) → IsRun said it reading writing input → length input ≤ most_bytes → HasFault it input words → EndsWith 1 status
+    (it : Command) (input words : List ℕ) → IsRun said it reading writing input → length input ≤ MOST_INPUT → HasFault it input words → EndsWith 1 status
 
 -- An input that is too long is named so.
 abbrev pub NamesTooLong : Option Command → Reading → Writing → ℕ → Type 0
 NamesTooLong said reading writing status =
-    (it : Command) (input : List ℕ) → IsRun said it reading writing input → most_bytes < length input → EndsWith 7 status
+    (it : Command) (input : List ℕ) → IsRun said it reading writing input → MOST_INPUT < length input → EndsWith 7 status

@@ -4,8 +4,6 @@ pub mod Replies
 pub mod Looks
 pub mod Outside
 pub mod Tools
-pub mod Evals
-pub mod Curries
 pub mod Outputs
 pub mod Played
 pub mod Headline

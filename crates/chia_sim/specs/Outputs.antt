@@ -5,9 +5,7 @@ use Rattle.session_spec.specs.FirstForm.{session_of}
 use Rattle.session_spec.specs.Texts.{output_of}
 use Rattle.tool_words.specs.declared.said.Command.{Command}
 use Rattle.tool_words.specs.declared.said.Command.TheVariants as command
-use Rattle.chia_sim.specs.Tools.{hash_of_input}
-use Rattle.chia_sim.specs.Evals.{eval_of_input}
-use Rattle.chia_sim.specs.Curries.{curry_of_input}
+use Rattle.chia_sim.specs.Tools.{hash_of_input, eval_of_input, curry_of_input}
 
 -- The input is a session, and these bytes are the output of one legal history of it.
 pub record IsPlayed (input output : List ℕ) : Type 0 where

@@ -2,6 +2,7 @@
 use Rattle.std.specs.Prelude.{ℕ, ◌<◌, ◌≤◌, ◌⊎◌, List, ◌++◌, length, take, Option}
 use Rattle.std.specs.Io.KnownBytes.{Appends, Consumes, IsAtEnd}
 use Rattle.ports_io.specs.Outside.{Rose, Took}
+use Rattle.chia_sim.specs.declared.limits.TheConstants.{MOST_INPUT}
 use Rattle.session_spec.specs.Texts.{line_feed}
 
 -- the bytes that are left in the source, where it tells them, and its count of faults, before the run and after it
@@ -24,23 +25,19 @@ reading left left_after faults faults_after = record { left = left; left_after =
 abbrev pub writing : Option (List ℕ) → Option (List ℕ) → ℕ → ℕ → Writing
 writing got got_after faults faults_after = record { got = got; got_after = got_after; faults = faults; faults_after = faults_after }
 
--- the most bytes of an input
-abbrev pub most_bytes : ℕ
-most_bytes = 67_108_864
-
 -- These bytes are the input: all that the source had, and not too many.
 pub record IsInput (reading : Reading) (input : List ℕ) : Type 0 where
-  pub within : length input ≤ most_bytes
+  pub within : length input ≤ MOST_INPUT
   pub taken : Consumes reading.left reading.left_after input
   pub ended : IsAtEnd reading.left_after
 
 -- The source failed, before too many bytes were taken.
 pub record FailsToRead (reading : Reading) : Type 0 where
   pub rose : Rose reading.faults reading.faults_after
-  pub taken : Took reading.left reading.left_after (λ n. n ≤ most_bytes)
+  pub taken : Took reading.left reading.left_after (λ n. n ≤ MOST_INPUT)
 
 abbrev pub IsTooLong : Reading → Type 0
-IsTooLong reading = Took reading.left reading.left_after (λ n. most_bytes < n)
+IsTooLong reading = Took reading.left reading.left_after (λ n. MOST_INPUT < n)
 
 abbrev pub Writes : Writing → List ℕ → Type 0
 Writes writing bytes = Appends writing.got writing.got_after bytes

@@ -3,20 +3,18 @@
 
 mod answer;
 mod bundles;
-mod curry;
-mod eval;
 mod form;
-mod hash;
+mod limits;
 mod lines;
 mod members;
 mod opening;
 mod play;
-mod refusal;
 mod reply;
 mod report;
 mod run;
 mod session;
 mod stop;
+mod tools;
 #[cfg(test)]
 mod tests;
 

@@ -20,7 +20,8 @@ use pool_spec::Limits;
 use serde_json::Value;
 use std::alloc::Global;
 
-const MOST_BYTES: usize = 65_536;
+/// How many bytes a session has at most so far.
+const MOST_SESSION: usize = 65_536;
 
 /// What a session says: the pool that it opens with, the bundle that it admits, and the ids of the coins that it then
 /// asks for.
@@ -187,7 +188,7 @@ fn of_lines(alloc: Global, lines: &[Value]) -> Result<Opening, FormFault>
 pub(crate) fn open(alloc: Global, input: &[u8]) -> Result<Opening, FormFault>
     ensures { Opens (session_of input.now) result }
 {
-    if input.len() > MOST_BYTES {
+    if input.len() > MOST_SESSION {
         return Err(FormFault::Unbuilt);
     }
     let lines = objects(alloc, input)?;

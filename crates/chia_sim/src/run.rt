@@ -7,13 +7,11 @@ ghost use Rattle.chia_sim.specs.Stops.{status_of, words_of, HasCause, IsAnswerTo
 ghost use Rattle.chia_sim.specs.FirstWord.{begin_with_session};
 
 use crate::answer::{Answer, answer_to};
+use crate::limits::MOST_INPUT;
 use crate::stop::Stop;
 use ports_io::{Gate, Library, Sink, Source, read_to_limit, write_all};
 use std::alloc::Global;
 use tool_words::{Command, WordsFault, command};
-
-// The most bytes of an input.
-const MOST_BYTES: usize = 67_108_864;
 
 /// Runs the program on its arguments without its own name, and gives the status that it ends with.
 ///
@@ -140,7 +138,7 @@ fn answer<S: Source>(alloc: Global, command: Command, source: &mut S) -> Result<
         (reading (S.left source.old) (S.left source.new) (S.faults source.old) (S.faults source.new))) }
     ensures later { S.faults source.old ≤ S.faults source.new }
 {
-    let input = read_to_limit(alloc, source, MOST_BYTES)?;
+    let input = read_to_limit(alloc, source, MOST_INPUT)?;
     Ok(answer_to(alloc, command, input)?)
 }
 

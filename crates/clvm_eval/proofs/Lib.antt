@@ -1,4 +1,5 @@
 pub mod PathLaws
-pub mod WorkLaws
+pub mod EvaluationLaws
 pub mod StateLaws
 pub mod FormLaws
+pub mod QuickLaws

@@ -1,4 +1,5 @@
 pub mod Runs
-pub mod PendingWork
+pub mod OpenForms
 pub mod Steps
 pub mod Paths
+pub mod Quick

@@ -1,21 +1,24 @@
 //! An operator whose operands are evaluated.
 
-ghost use Rattle.std.specs.Prelude.{◌≡◌, ℕ, ◌+◌, ◌-◌, ◌<◌, ◌≤◌, ◌++◌, List, length, take, drop, reverse, true, false, IfErr, OnOk, OnErr};
+ghost use Rattle.std.specs.Prelude.{◌≡◌, ◌^◌, ℕ, ◌+◌, ◌-◌, ◌<◌, ◌≤◌, ◌++◌, List, [], ◌∷◌, length, take, true, false, IfOk, IfErr, OnOk, OnErr};
 ghost use Rattle.clvm_spec.specs.declared.fuel.Fuel.{Fuel};
 ghost use Rattle.clvm_spec.specs.Tree.{Tree};
 ghost use Rattle.clvm_spec.specs.Outcomes.{WithinFuel};
 ghost use Rattle.clvm_spec.specs.Evaluation.{in_form, is_code};
 ghost use Rattle.clvm_spec.specs.OperatorTable.{apply_code};
-ghost use Rattle.clvm_tree.specs.Nodes.{tree_at, IsKnown, Grows};
-ghost use Rattle.clvm_tree.specs.Operators.{IsWithin, IsOpFault};
+ghost use Rattle.clvm_tree.specs.Nodes.{tree_at, IsKnown, AreKnown, Grows};
+ghost use Rattle.clvm_tree.specs.Operators.{trees_at, outcome_by, IsAnswer, IsWithin, IsOpFault};
 ghost use Rattle.clvm_eval.specs.Runs.{IsRunFault};
-ghost use Rattle.clvm_eval.specs.Steps.{IsCall, Awaits, call_outcome, Advances, StepsTo, TakesAnswer};
-ghost use Rattle.clvm_eval.specs.declared.RunFault.TheVariants as run_fault;
+ghost use Rattle.clvm_eval.specs.Steps.{IsOpen, Advances, StepsTo, TakesAnswer, outcome_of};
+ghost use Rattle.clvm_eval.specs.declared.state.Step.TheVariants as step;
 
 use crate::evaluate::is_byte;
-use crate::pending::{Call, Expression, Pending, Task, pay};
+use crate::quick::quick;
+use crate::state::{Frame, State, Step, pay};
 use crate::{RunFault, Why};
-use clvm_tree::{Answer, Node, OpFault, Operators, Sight, Trees, Which};
+use clvm_spec::costs::APPLY_COST;
+use clvm_spec::op_codes::APPLY;
+use clvm_tree::{Answer, Fuel, Node, OpFault, Operators, Sight, Trees, Which};
 use std::alloc::Global;
 
 /// Whether the code is that of `a`, which goes on with its operands.
@@ -24,7 +27,7 @@ pub(crate) fn is_apply(trees: &Trees, code: Node) -> bool
     ensures { result ≡ is_code apply_code (tree_at trees.now code.0) }
 {
     match trees.look(code) {
-        Sight::Bytes(bytes) => is_byte(2, bytes),
+        Sight::Bytes(bytes) => is_byte(APPLY, bytes),
         Sight::Parts(_, _) => false,
     }
 }
@@ -47,76 +50,90 @@ fn fault_in(form: Node, fault: OpFault) -> RunFault
     }
 }
 
-// The last value is the first operand.
-fn reverse_from(values: &mut Vec<Node>, start: usize)
-    requires { start ≤ length values.old.items }
-    ensures { values.new.items ≡ take start values.old.items ++ reverse (drop start values.old.items) }
+// What the operator of this code gives, at once where that can be told, else by the table.
+fn answer<O: Operators>(
+    alloc: Global,
+    trees: &mut Trees,
+    ops: &O,
+    code: Node,
+    operands: &[Node],
+    left: Fuel,
+) -> Result<Answer, OpFault>
+    requires code_known { IsKnown trees.old code.0 }
+    requires operands_known { AreKnown trees.old operands.now }
+    requires fits { length trees.old + length operands.now + left.pairs + left.bytes < 2 ^ 31 }
+    ensures grows { Grows trees.old trees.new }
+    ensures few { IfOk result (λ answer. length trees.new ≤ length trees.old + answer.pairs + answer.bytes) }
+    ensures within { IfOk result (IsWithin left) }
+    ensures gives { IfOk result (IsAnswer trees.new
+        (outcome_by (tree_at trees.old code.0) (trees_at trees.old operands.now) left)) }
+    ensures few_after_fault { OnErr result
+        (length trees.new ≤ length trees.old + length operands.now + left.pairs + left.bytes) }
+    ensures fault { IfErr result (IsOpFault trees.new
+        (outcome_by (tree_at trees.old code.0) (trees_at trees.old operands.now) left)) }
 {
-    values[start..].reverse();
+    match quick(alloc, trees, code, operands, left) {
+        Some(answer) => Ok(answer),
+        None => ops.apply(alloc, trees, code, operands, left),
+    }
 }
 
-impl Pending {
+impl State {
     /// Goes on with the first operand as the program and the second as the environment, at the form's depth.
-    pub(crate) fn go_on(&mut self, trees: &Trees, call: Call) -> Result<(), RunFault>
-        requires awaits { Awaits trees.now self.old call.count }
-        requires known { IsCall trees.now call }
-        requires apply { is_code apply_code (tree_at trees.now call.code.0) ≡ true }
-        ensures { StepsTo trees.now self.old self.new call.count (call_outcome trees.now self.old call) result }
+    pub(crate) fn run_operand(&mut self, trees: &Trees, frame: Frame) -> Result<Step, RunFault>
+        requires opened { IsOpen trees.now self.old frame }
+        requires ready { frame.programs ≡ 0 }
+        requires apply { is_code apply_code (tree_at trees.now frame.code.0) ≡ true }
+        ensures { StepsTo trees.now self.old self.new (outcome_of trees.now self.old (step.Open frame)) result }
     {
-        if call.count != 2 {
-            return Err(RunFault::Failed(Why::Count, call.form));
+        if frame.count != 2 {
+            return Err(RunFault::Failed(Why::Count, frame.form));
         }
-        if !pay(&mut self.left, 90) {
+        if !pay(&mut self.left, APPLY_COST as u128) {
             return Err(RunFault::Spent(Which::Cost));
         }
-        let start = self.values.len() - 2;
-        let env = self.values[start];
-        let program = self.values[start + 1];
-        self.values.truncate(start);
-        self.tasks.push(Task::Evaluate(Expression {
-            program,
-            env,
-            depth: call.depth,
-        }))?;
-        Ok(())
+        let start = self.operands.len() - 2;
+        let program = self.operands[start];
+        let env = self.operands[start + 1];
+        self.operands.truncate(start);
+        self.evaluate(trees, program, env)
     }
 
-    // Puts the answer in the place of its operands.
+    // Takes the operands away, and what the answer uses.
     #[tactic(auto, using(clvm_spec::proofs::SpendingLaws::covers))]
-    fn take_answer(&mut self, start: usize, answer: Answer) -> Result<(), RunFault>
+    fn take_answer(&mut self, start: usize, answer: Answer)
         requires within { IsWithin self.old.left answer }
-        ensures ok { OnOk result (TakesAnswer start answer self.old self.new) }
-        ensures fault { IfErr result (λ fault. fault ≡ run_fault.OutOfMemory) }
+        ensures { TakesAnswer start answer self.old self.new }
     {
         self.left.cost -= answer.cost;
         self.left.pairs -= answer.pairs;
         self.left.bytes -= answer.bytes;
-        self.values.truncate(start);
-        self.values.push(answer.value)?;
-        Ok(())
+        self.operands.truncate(start);
     }
 
-    /// Applies an operator from the table to its operands.
+    /// Applies an operator to its operands.
     pub(crate) fn operate<O: Operators>(
         &mut self,
         alloc: Global,
         trees: &mut Trees,
         ops: &O,
-        call: Call,
-    ) -> Result<(), RunFault>
-        requires awaits { Awaits trees.old self.old call.count }
-        requires known { IsCall trees.old call }
-        requires other { is_code apply_code (tree_at trees.old call.code.0) ≡ false }
+        frame: Frame,
+    ) -> Result<Step, RunFault>
+        requires opened { IsOpen trees.old self.old frame }
+        requires ready { frame.programs ≡ 0 }
+        requires other { is_code apply_code (tree_at trees.old frame.code.0) ≡ false }
         ensures grows { Grows trees.old trees.new }
-        ensures ok { OnOk result (Advances trees.old trees.new self.old self.new call.count (call_outcome trees.old self.old call)) }
+        ensures ok { IfOk result (Advances trees.old trees.new self.old self.new (outcome_of trees.old self.old (step.Open frame))) }
         ensures few_after_fault { OnErr result (length trees.new ≤ length trees.old + length trees.old + self.old.left.pairs + self.old.left.bytes) }
-        ensures fault { IfErr result (IsRunFault trees.new (call_outcome trees.old self.old call)) }
+        ensures fault { IfErr result (IsRunFault trees.new (outcome_of trees.old self.old (step.Open frame))) }
     {
-        let start = self.values.len() - call.count as usize;
-        reverse_from(&mut self.values, start);
-        match ops.apply(alloc, trees, call.code, &self.values[start..], self.left) {
-            Ok(answer) => self.take_answer(start, answer),
-            Err(fault) => Err(fault_in(call.form, fault)),
+        let start = self.operands.len() - frame.count as usize;
+        match answer(alloc, trees, ops, frame.code, &self.operands[start..], self.left) {
+            Ok(answer) => {
+                self.take_answer(start, answer);
+                Ok(self.give(trees, answer.value))
+            }
+            Err(fault) => Err(fault_in(frame.form, fault)),
         }
     }
 }

@@ -1,16 +1,28 @@
 //! A step of evaluation: a path, a quoted value, or the begin of an operator form.
 
-ghost use Rattle.std.specs.Prelude.{◌≡◌, ℕ, ◌+◌, ◌<◌, ◌≤◌, None, MatchBool, MatchOption, OnOk};
+ghost use Rattle.std.specs.Prelude.{◌≡◌, ℕ, ◌+◌, ◌<◌, ◌≤◌, None, IfOk, OnOk};
 ghost use Rattle.clvm_spec.specs.Tree.{Atom};
-ghost use Rattle.clvm_spec.specs.ProperList.{elements};
-ghost use Rattle.clvm_spec.specs.Evaluation.{is_byte, is_too_deep, most_depth};
-ghost use Rattle.clvm_tree.specs.Nodes.{tree_at, IsKnown, IsPair, HasParts};
-ghost use Rattle.clvm_eval.specs.Steps.{AreTasks, IsExpression, Awaits, expression_outcome, StepsTo, IsForm, HasElements, AddsOperands};
+ghost use Rattle.clvm_spec.specs.Evaluation.{is_byte, is_too_deep, evaluation};
+ghost use Rattle.clvm_spec.specs.Operators.{is_nil};
+ghost use Rattle.clvm_tree.specs.Nodes.{tree_at, IsKnown, HasParts};
+ghost use Rattle.clvm_eval.specs.declared.state.Step.TheVariants as step;
+ghost use Rattle.clvm_eval.specs.Steps.{IsState, IsOpen, outcome_with, outcome_of, Begins, IsForm, AddsOperands, StepsTo};
 
 use crate::path::{cost_of_path, follow};
-use crate::pending::{Call, Expression, Pending, Task, pay};
+use crate::state::{Frame, State, Step, pay};
 use crate::{RunFault, Why};
-use clvm_tree::{Node, OutOfMemory, Sight, Trees, Which};
+use clvm_spec::costs::{FORM_COST, QUOTE_COST};
+use clvm_spec::op_codes::QUOTE;
+use clvm_tree::{Fuel, Node, OutOfMemory, Sight, Trees, Which};
+
+/// What a program is.
+#[derive(Clone, Copy, Debug)]
+pub(crate) enum Begun {
+    /// A path or a quoted tree, with its value, which is paid.
+    Value(Node),
+    /// An operator form, by its code and the list of its operands. Nothing is paid yet.
+    Form(Node, Node),
+}
 
 /// Whether an atom is this one byte.
 pub(crate) fn is_byte(code: u8, bytes: &[u8]) -> bool
@@ -22,148 +34,183 @@ pub(crate) fn is_byte(code: u8, bytes: &[u8]) -> bool
     }
 }
 
-// How many elements a list has. None where nil doesn't end it.
-fn count_operands(trees: &Trees, list: Node) -> Option<u32>
+/// Looks at a program, and evaluates it where that takes no operator.
+pub(crate) fn begin(
+    trees: &Trees,
+    left: &mut Fuel,
+    program: Node,
+    env: Node,
+) -> Result<Begun, RunFault>
+    requires program_known { IsKnown trees.now program.0 }
+    requires env_known { IsKnown trees.now env.0 }
+    ensures { Begins trees.now program.0 env.0 left.old left.new result }
+{
+    match trees.look(program) {
+        Sight::Bytes(path) => evaluate_path(trees, left, path, program, env),
+        Sight::Parts(head, rest) => begin_pair(trees, left, head, rest, program, env),
+    }
+}
+
+// A step's failure comes before its lack of cost.
+fn evaluate_path(
+    trees: &Trees,
+    left: &mut Fuel,
+    path: &[u8],
+    program: Node,
+    env: Node,
+) -> Result<Begun, RunFault>
+    requires program_known { IsKnown trees.now program.0 }
+    requires env_known { IsKnown trees.now env.0 }
+    requires path { tree_at trees.now program.0 ≡ Atom path.now }
+    ensures { Begins trees.now program.0 env.0 left.old left.new result }
+{
+    let Some(at) = follow(trees, path, env) else {
+        return Err(RunFault::Failed(Why::Path, program));
+    };
+    if !pay(left, cost_of_path(path, at.steps)) {
+        return Err(RunFault::Spent(Which::Cost));
+    }
+    Ok(Begun::Value(at.node))
+}
+
+fn begin_pair(
+    trees: &Trees,
+    left: &mut Fuel,
+    head: Node,
+    rest: Node,
+    program: Node,
+    env: Node,
+) -> Result<Begun, RunFault>
+    requires program_known { IsKnown trees.now program.0 }
+    requires env_known { IsKnown trees.now env.0 }
+    requires parts { HasParts trees.now program.0 head.0 rest.0 }
+    ensures { Begins trees.now program.0 env.0 left.old left.new result }
+{
+    let _env = env;
+    let Sight::Bytes(code) = trees.look(head) else {
+        return Err(RunFault::Failed(Why::Operator, program));
+    };
+    if !is_byte(QUOTE, code) {
+        return Ok(Begun::Form(head, rest));
+    }
+    if !pay(left, QUOTE_COST as u128) {
+        return Err(RunFault::Spent(Which::Cost));
+    }
+    Ok(Begun::Value(rest))
+}
+
+/// Whether the node is the empty atom.
+pub(crate) fn is_nil(trees: &Trees, node: Node) -> bool
+    requires { IsKnown trees.now node.0 }
+    ensures { result ≡ is_nil (tree_at trees.now node.0) }
+{
+    trees.is_nil(node)
+}
+
+// Adds the elements of a list, and tells how many there are, None where nil doesn't end it.
+fn add_operands(
+    operands: &mut Vec<Node>,
+    trees: &Trees,
+    list: Node,
+) -> Result<Option<u32>, OutOfMemory>
     requires { IsKnown trees.now list.0 }
-    ensures { MatchOption result (elements (tree_at trees.now list.0) ≡ None) (HasElements trees.now list.0) }
+    ensures { IfOk result (AddsOperands trees.now list.0 operands.old.items operands.new.items) }
 {
     let mut rest = list;
     let mut count = 0;
-    'elements: loop {
-        match trees.look(rest) {
-            Sight::Parts(_, more) => {
-                rest = more;
-                count += 1;
-            }
-            Sight::Bytes(bytes) => {
-                if bytes.is_empty() {
-                    return Some(count);
-                }
-                return None;
-            }
-        }
-    }
-}
-
-// Adds a task for each element, so that the last is done first.
-fn push_operands(
-    tasks: &mut Vec<Task>,
-    trees: &Trees,
-    list: Node,
-    env: Node,
-    depth: u32,
-) -> Result<(), OutOfMemory>
-    requires list_known { IsKnown trees.now list.0 }
-    requires env_known { IsKnown trees.now env.0 }
-    requires shallow { IsPair (tree_at trees.now list.0) → depth ≤ most_depth }
-    requires sound { AreTasks trees.now tasks.old.items }
-    ensures { OnOk result (AddsOperands trees.now list.0 (tree_at trees.now env.0) depth tasks.old.items tasks.new.items) }
-{
-    let mut rest = list;
     'elements: while let Some((program, more)) = trees.as_pair(rest) {
-        tasks.push(Task::Evaluate(Expression {
-            program,
-            env,
-            depth,
-        }))?;
+        operands.push(program)?;
         rest = more;
+        count += 1;
     }
-    Ok(())
+    if is_nil(trees, rest) {
+        Ok(Some(count))
+    } else {
+        Ok(None)
+    }
 }
 
 // Operands stand one deeper than their form, so a form that has some can't be at the limit.
-fn is_too_deep(count: u32, depth: u32, limit: u32) -> bool
+fn is_too_deep(count: u32, depth: usize, limit: u32) -> bool
     ensures { result ≡ is_too_deep count depth limit }
 {
-    count > 0 && depth >= limit
+    count > 0 && depth >= limit as usize
 }
 
-impl Pending {
-    /// A step's failure comes before its lack of cost.
-    fn evaluate_path(
-        &mut self,
-        trees: &Trees,
-        path: &[u8],
-        expression: Expression,
-    ) -> Result<(), RunFault>
-        requires awaits { Awaits trees.now self.old 0 }
-        requires known { IsExpression trees.now expression }
-        requires path { tree_at trees.now expression.program.0 ≡ Atom path.now }
-        ensures { StepsTo trees.now self.old self.new 0 (expression_outcome trees.now self.old expression) result }
-    {
-        match follow(trees, path, expression.env) {
-            Some(at) => self.put(at.node, cost_of_path(path, at.steps)),
-            None => Err(RunFault::Failed(Why::Path, expression.program)),
-        }
-    }
-
-    // The operator awaits its operands, which are evaluated before it, from the last to the first.
-    fn begin_form(
+impl State {
+    /// Opens a form: its operands are programs that are evaluated before its operator is applied.
+    fn open_form(
         &mut self,
         trees: &Trees,
         code: Node,
         operands: Node,
-        expression: Expression,
-    ) -> Result<(), RunFault>
-        requires awaits { Awaits trees.now self.old 0 }
-        requires known { IsExpression trees.now expression }
-        requires form { IsForm trees.now expression.program.0 code.0 operands.0 }
-        ensures { StepsTo trees.now self.old self.new 0 (expression_outcome trees.now self.old expression) result }
+        form: Node,
+        env: Node,
+    ) -> Result<Step, RunFault>
+        requires state { IsState trees.now self.old 0 }
+        requires form_known { IsKnown trees.now form.0 }
+        requires env_known { IsKnown trees.now env.0 }
+        requires form { IsForm trees.now form.0 code.0 operands.0 }
+        ensures { StepsTo trees.now self.old self.new (outcome_with trees.now self.old form.0 env.0) result }
     {
-        let form = expression.program;
-        let depth = expression.depth;
-        let Some(count) = count_operands(trees, operands) else {
+        let depth = self.frames.len();
+        let Some(count) = add_operands(&mut self.operands, trees, operands)? else {
             return Err(RunFault::Failed(Why::List, form));
         };
-        if !pay(&mut self.left, 1) {
+        if !pay(&mut self.left, FORM_COST as u128) {
             return Err(RunFault::Spent(Which::Cost));
         }
         if is_too_deep(count, depth, self.left.depth) {
             return Err(RunFault::Spent(Which::Depth));
         }
-        self.tasks.push(Task::Apply(Call {
+        Ok(Step::Open(Frame {
             code,
             form,
-            depth,
+            env,
             count,
-        }))?;
-        push_operands(&mut self.tasks, trees, operands, expression.env, depth + 1)?;
-        Ok(())
+            programs: count,
+        }))
     }
 
-    fn evaluate_pair(
+    /// Evaluates a program whose value the innermost form awaits, or opens it where it's a form.
+    pub(crate) fn evaluate(
         &mut self,
         trees: &Trees,
-        head: Node,
-        rest: Node,
-        expression: Expression,
-    ) -> Result<(), RunFault>
-        requires awaits { Awaits trees.now self.old 0 }
-        requires known { IsExpression trees.now expression }
-        requires parts { HasParts trees.now expression.program.0 head.0 rest.0 }
-        ensures { StepsTo trees.now self.old self.new 0 (expression_outcome trees.now self.old expression) result }
+        program: Node,
+        env: Node,
+    ) -> Result<Step, RunFault>
+        requires state { IsState trees.now self.old 0 }
+        requires program_known { IsKnown trees.now program.0 }
+        requires env_known { IsKnown trees.now env.0 }
+        ensures { StepsTo trees.now self.old self.new (outcome_with trees.now self.old program.0 env.0) result }
     {
-        match trees.look(head) {
-            Sight::Parts(_, _) => Err(RunFault::Failed(Why::Operator, expression.program)),
-            Sight::Bytes(code) => {
-                if is_byte(1, code) {
-                    self.put(rest, 20)
-                } else {
-                    self.begin_form(trees, head, rest, expression)
-                }
-            }
+        match begin(trees, &mut self.left, program, env)? {
+            Begun::Value(value) => Ok(self.give(trees, value)),
+            Begun::Form(code, operands) => self.open_form(trees, code, operands, program, env),
         }
     }
 
-    /// One step of evaluation.
-    pub(crate) fn evaluate(&mut self, trees: &Trees, expression: Expression) -> Result<(), RunFault>
-        requires awaits { Awaits trees.now self.old 0 }
-        requires known { IsExpression trees.now expression }
-        ensures { StepsTo trees.now self.old self.new 0 (expression_outcome trees.now self.old expression) result }
+    /// Evaluates the last operand of the open form that is a program yet, or opens it where it's a form.
+    pub(crate) fn evaluate_operand(&mut self, trees: &Trees, frame: Frame) -> Result<Step, RunFault>
+        requires opened { IsOpen trees.now self.old frame }
+        requires some { 0 < frame.programs }
+        ensures { StepsTo trees.now self.old self.new (outcome_of trees.now self.old (step.Open frame)) result }
     {
-        match trees.look(expression.program) {
-            Sight::Bytes(path) => self.evaluate_path(trees, path, expression),
-            Sight::Parts(head, rest) => self.evaluate_pair(trees, head, rest, expression),
+        let frame = Frame {
+            programs: frame.programs - 1,
+            ..frame
+        };
+        let place = self.operands.len() - frame.count as usize + frame.programs as usize;
+        let program = self.operands[place];
+        match begin(trees, &mut self.left, program, frame.env)? {
+            Begun::Value(value) => {
+                self.operands[place] = value;
+                Ok(Step::Open(frame))
+            }
+            Begun::Form(code, operands) => {
+                self.frames.push(frame)?;
+                self.open_form(trees, code, operands, program, frame.env)
+            }
         }
     }
 }

@@ -1,4 +1,4 @@
-//! The costed run of a program: evaluation with pending work on a stack, so that no depth of a program is too deep.
+//! The costed run of a program: evaluation with the open forms on a stack, so that no depth of a program is too deep.
 #![tactic(auto)]
 
 ghost use Rattle.std.specs.Prelude.{◌≡◌};
@@ -8,7 +8,8 @@ mod apply;
 mod evaluate;
 mod machine;
 mod path;
-mod pending;
+mod quick;
+mod state;
 
 pub use clvm_tree::{Fuel, Node, Operators, OutOfMemory, Trees, Which};
 pub use machine::run;

@@ -1,41 +1,39 @@
-//! A run: tasks are done until there is none.
+//! A run: it goes on from one step to the next until it's done.
 
 ghost use Rattle.std.specs.Prelude.{◌≡◌, ℕ, ◌+◌, ◌*◌, ◌<◌, ◌≤◌, ◌^◌, length, IfOk, IfErr, OnOk, OnErr};
 ghost use Rattle.clvm_spec.specs.Evaluation.{run_outcome, most_pairs, most_bytes, most_depth};
 ghost use Rattle.clvm_tree.specs.Nodes.{tree_at, IsKnown, Grows};
 ghost use Rattle.clvm_eval.specs.Runs.{IsRunDone, IsRunFault};
-ghost use Rattle.clvm_eval.specs.Steps.{IsTask, Awaits, task_outcome, taken_by, Advances};
+ghost use Rattle.clvm_eval.specs.Steps.{IsOpen, Advances, outcome_of};
+ghost use Rattle.clvm_eval.specs.declared.state.Step.TheVariants as step;
 
 use crate::apply::is_apply;
-use crate::pending::{Expression, Pending, Task};
+use crate::state::{Frame, State, Step};
 use crate::{Done, RunFault};
 use clvm_tree::{Fuel, Node, Operators, Trees};
 use std::alloc::Global;
 
-impl Pending {
-    fn step<O: Operators>(
+impl State {
+    // Goes on with the open form.
+    fn go_on<O: Operators>(
         &mut self,
         alloc: Global,
         trees: &mut Trees,
         ops: &O,
-        task: Task,
-    ) -> Result<(), RunFault>
-        requires awaits { Awaits trees.old self.old (taken_by task) }
-        requires known { IsTask trees.old task }
+        frame: Frame,
+    ) -> Result<Step, RunFault>
+        requires { IsOpen trees.old self.old frame }
         ensures grows { Grows trees.old trees.new }
-        ensures ok { OnOk result (Advances trees.old trees.new self.old self.new (taken_by task) (task_outcome trees.old self.old task)) }
+        ensures ok { IfOk result (Advances trees.old trees.new self.old self.new (outcome_of trees.old self.old (step.Open frame))) }
         ensures few_after_fault { OnErr result (length trees.new ≤ length trees.old + length trees.old + self.old.left.pairs + self.old.left.bytes) }
-        ensures fault { IfErr result (IsRunFault trees.new (task_outcome trees.old self.old task)) }
+        ensures fault { IfErr result (IsRunFault trees.new (outcome_of trees.old self.old (step.Open frame))) }
     {
-        match task {
-            Task::Evaluate(expression) => self.evaluate(trees, expression),
-            Task::Apply(call) => {
-                if is_apply(trees, call.code) {
-                    self.go_on(trees, call)
-                } else {
-                    self.operate(alloc, trees, ops, call)
-                }
-            }
+        if frame.programs > 0 {
+            self.evaluate_operand(trees, frame)
+        } else if is_apply(trees, frame.code) {
+            self.run_operand(trees, frame)
+        } else {
+            self.operate(alloc, trees, ops, frame)
         }
     }
 }
@@ -64,21 +62,21 @@ pub fn run<O: Operators>(
     ensures fault { IfErr result (IsRunFault trees.new
         (run_outcome (tree_at trees.old program.0) (tree_at trees.old env.0) fuel)) }
 {
-    let mut pending = Pending {
-        tasks: Vec::new(alloc),
-        values: Vec::new(alloc),
+    let mut state = State {
+        frames: Vec::new(alloc),
+        operands: Vec::new(alloc),
         left: fuel,
     };
-    pending.tasks.push(Task::Evaluate(Expression {
-        program,
-        env,
-        depth: 0,
-    }))?;
-    'tasks: while let Some(task) = pending.tasks.pop() {
-        pending.step(alloc, trees, ops, task)?;
+    let mut next = state.evaluate(trees, program, env)?;
+    'steps: loop {
+        match next {
+            Step::Done(value) => {
+                return Ok(Done {
+                    value,
+                    cost: fuel.cost - state.left.cost,
+                });
+            }
+            Step::Open(frame) => next = state.go_on(alloc, trees, ops, frame)?,
+        }
     }
-    Ok(Done {
-        value: pending.values[0],
-        cost: fuel.cost - pending.left.cost,
-    })
 }

@@ -6,6 +6,7 @@ ghost use Rattle.clvm_tree.specs.Nodes.{tree_at, IsKnown};
 ghost use Rattle.clvm_eval.specs.Paths.{IsStep, IsNoStep, IsFollowed, IsAstray, IsReached};
 
 use clvm_spec::arithmetic::leading_zero_bytes;
+use clvm_spec::costs::{PATH_COST, PATH_STEP_COST, PATH_ZERO_COST};
 use clvm_tree::{Node, Trees};
 
 /// Where a path leads.
@@ -76,5 +77,8 @@ pub fn follow(trees: &Trees, path: &[u8], env: Node) -> Option<Place>
 pub fn cost_of_path(path: &[u8], steps: u32) -> u128
     ensures { result ≡ path_cost path.now steps }
 {
-    44 + 4 * leading_zero_bytes(path) as u128 + 4 * steps as u128
+    let zeros = leading_zero_bytes(path);
+    PATH_COST as u128
+        + PATH_ZERO_COST as u128 * zeros as u128
+        + PATH_STEP_COST as u128 * steps as u128
 }

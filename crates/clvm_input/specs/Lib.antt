@@ -3,3 +3,4 @@ pub mod Inputs
 pub mod Words
 pub mod Answers
 pub mod Decoded
+pub mod Tools

@@ -1,4 +1,4 @@
-// Hexadecimal text.
+//! Hexadecimal text.
 ghost use Rattle.std.specs.Prelude.{◌≡◌, ◌*◌, ◌≤◌, length, IfOk};
 ghost use Rattle.clvm_spec.specs.Tokens.{is_separator};
 ghost use Rattle.clvm_input.specs.Texts.{without_front_blanks, without_end_blanks, trimmed, digits_of, bytes_of};

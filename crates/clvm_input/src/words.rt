@@ -1,14 +1,12 @@
-// Several CLVM words.
+//! Several CLVM words.
 ghost use Rattle.std.specs.Prelude.{◌≡◌, ◌≤◌, length, map, sum_by, IfOk, IsTrue};
 ghost use Rattle.clvm_input.specs.Words.{are_few, words_of};
 
 use crate::word::{Word, read_word};
+use clvm_spec::limits::MOST_SPELLED;
 use clvm_tree::OutOfMemory;
 use std::alloc::Global;
 use std::marker::Model;
-
-// The most bytes that words stand for together.
-const MOST_BYTES: usize = 67_108_864;
 
 /// CLVM words, which stand for at most 67,108,864 bytes together.
 #[derive(Debug, Drop)]
@@ -44,7 +42,7 @@ pub fn read_words(alloc: Global, texts: &[&str]) -> Result<Option<Words>, OutOfM
     ensures { IfOk result (λ words. words ≡ words_of (map (λ text. text.now) texts.now)) }
 {
     let mut items = Vec::new(alloc);
-    let mut room = MOST_BYTES;
+    let mut room = MOST_SPELLED;
     for text in texts {
         let Some(word) = read_word(alloc, text.as_bytes())? else {
             return Ok(None);

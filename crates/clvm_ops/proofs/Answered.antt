@@ -21,7 +21,8 @@ use Rattle.clvm_tree.proofs.OperatorLaws.{answers_law}
 use Rattle.clvm_tree.proofs.NodeLaws.{grows_same}
 use Rattle.clvm_ops.proofs.Fits.{is_held}
 use Rattle.clvm_tree.specs.Operators.{KeepsNodes}
-use Rattle.clvm_ops.specs.Answering.{Answers, IsGiven, IsCharged}
+use Rattle.clvm_ops.specs.Answering.{Answers, Yields, IsGiven, IsCharged}
+use Rattle.clvm_ops.specs.declared.application.Application.{Application}
 use Rattle.clvm_ops.specs.declared.give.Charge.{Charge}
 
 -- what is said of an error that `?` hands on
@@ -56,27 +57,27 @@ keeps_same trees operands fault.Wide = refl
 keeps_same trees operands (fault.Spent which) = refl
 keeps_same trees operands fault.OutOfMemory = tt
 
-refused : (trees : List Tree) (operands : ℕ) (left : Fuel) (applied : Applied) (f : OpFault) → IsOpFault trees (within left applied) f → Answers trees trees operands left applied (Err f)
-refused trees operands left applied f is = record { grows = grows_same trees; few = omega arith; keeps = keeps_same trees operands f; is = is }
+refused : (trees : List Tree) (it : Application) (applied : Applied) (f : OpFault) → IsOpFault trees (within it.left applied) f → Yields trees trees it applied (Err f)
+refused trees it applied f is = record { grows = grows_same trees; few = omega arith; keeps = keeps_same trees (length it.operands.now) f; is = is }
 
-pub refused_at_once : (trees : List Tree) (operands : ℕ) (left : Fuel) (applied : Applied) (f : OpFault) → IsOpFault trees (Enough applied) f → Answers trees trees operands left applied (Err f)
-refused_at_once trees operands left applied f is = refused trees operands left applied f (still_faulty trees left applied f is)
+pub refused_at_once : (trees : List Tree) (it : Application) (applied : Applied) (f : OpFault) → IsOpFault trees (Enough applied) f → Yields trees trees it applied (Err f)
+refused_at_once trees it applied f is = refused trees it applied f (still_faulty trees it.left applied f is)
 
 -- a fault that is handed on, where no node was added
-pub spent : (trees : List Tree) (operands : ℕ) (left : Fuel) (applied : Applied) (f : OpFault) (result : Result Answer OpFault) → IsErrAnd result (λ e. e ≡ f) → IsOpFault trees (within left applied) f → Answers trees trees operands left applied result
-spent trees operands left applied f result handed is =
+pub spent : (trees : List Tree) (it : Application) (applied : Applied) (f : OpFault) (result : Result Answer OpFault) → IsErrAnd result (λ e. e ≡ f) → IsOpFault trees (within it.left applied) f → Yields trees trees it applied result
+spent trees it applied f result handed is =
     let e = err_from_is_err_and result handed in
-    rw (e.1, e.2) (refused trees operands left applied f is)
+    rw (e.1, e.2) (refused trees it applied f is)
 
-pub faulty : (trees : List Tree) (operands : ℕ) (left : Fuel) (applied : Applied) (f : OpFault) (result : Result Answer OpFault) → IsErrAnd result (λ e. e ≡ f) → IsOpFault trees (Enough applied) f → Answers trees trees operands left applied result
-faulty trees operands left applied f result handed is = spent trees operands left applied f result handed (still_faulty trees left applied f is)
+pub faulty : (trees : List Tree) (it : Application) (applied : Applied) (f : OpFault) (result : Result Answer OpFault) → IsErrAnd result (λ e. e ≡ f) → IsOpFault trees (Enough applied) f → Yields trees trees it applied result
+faulty trees it applied f result handed is = spent trees it applied f result handed (still_faulty trees it.left applied f is)
 
 pub fault_same : (trees : List Tree) (applied other : Applied) (f : OpFault) → applied ≡ other → IsOpFault trees (Enough other) f → IsOpFault trees (Enough applied) f
 fault_same trees applied other f e is = rw e is
 
 -- the answer of what is the same
-pub answers_same : (old new : List Tree) (operands : ℕ) (left : Fuel) (applied other : Applied) (result : Result Answer OpFault) → other ≡ applied → Answers old new operands left applied result → Answers old new operands left other result
-answers_same old new operands left applied other result e answers = rw e answers
+pub answers_same : (old new : List Tree) (it : Application) (applied other : Applied) (result : Result Answer OpFault) → other ≡ applied → Yields old new it applied result → Yields old new it other result
+answers_same old new it applied other result e answers = rw e answers
 
 -- a new value that was charged
 pub given_new : (old new : List Tree) (left : Fuel) (applied : Applied) (value : Tree) (cost pairs bytes : ℕ) (charge : Charge) (node : Node) (answer : Answer) → applied ≡ Gives value cost pairs bytes

@@ -3,6 +3,7 @@ use Rattle.std.proofs.Common.{◌≡◌, ℕ, ◌+◌, ◌*◌, ℤ, false, Some
 use Rattle.std.specs.Int.{w128}
 use Rattle.std.specs.Result.{IfOk, OnErr}
 use Rattle.std.proofs.lemmas.Bool.{cond-false}
+use Rattle.clvm_spec.specs.declared.costs.TheConstants.{RESULT_BYTE_COST, DIVISION_BYTE_COST, ATOM_OVERHEAD}
 use Rattle.clvm_spec.specs.Tree.{Tree, Atom, Pair}
 use Rattle.clvm_spec.specs.Numbers.{number, shortest_atom}
 use Rattle.clvm_spec.specs.Arithmetic.{if_fits, is_zero, quotient, remainder}
@@ -19,17 +20,17 @@ pair_some cost q r n d quotient_is remainder_is held =
     ap (λ first. or_wide first (λ a. or_wide (if_fits (remainder n d)) (λ b. written_pair cost (shortest_atom a) (shortest_atom b)))) (sym quotient_is)
     ∙ ap (λ second. or_wide second (λ b. written_pair cost (shortest_atom q) (shortest_atom b))) (ap if_fits (sym remainder_is) ∙ is_held r held)
 
-pub written_pair_is : (cost : ℕ) (a b : List ℕ) (m n : ℕ) → m ≡ length a → n ≡ length b → written_pair cost a b ≡ Gives (Pair (Atom a) (Atom b)) (cost + 10 * (m + n)) 1 (m + n + 16)
+pub written_pair_is : (cost : ℕ) (a b : List ℕ) (m n : ℕ) → m ≡ length a → n ≡ length b → written_pair cost a b ≡ Gives (Pair (Atom a) (Atom b)) (cost + RESULT_BYTE_COST * (m + n)) 1 (m + n + 2 * ATOM_OVERHEAD)
 written_pair_is cost a b m n first second =
-    let costs : cost + 10 * (length a + length b) ≡ cost + 10 * (m + n) = omega arith in
-    let bytes : (length a + 8) + (length b + 8) ≡ m + n + 16 = omega arith in
+    let costs : cost + RESULT_BYTE_COST * (length a + length b) ≡ cost + RESULT_BYTE_COST * (m + n) = omega arith in
+    let bytes : (length a + ATOM_OVERHEAD) + (length b + ATOM_OVERHEAD) ≡ m + n + 2 * ATOM_OVERHEAD = omega arith in
     ap₂ (λ c k. Gives (Pair (Atom a) (Atom b)) c 1 k) costs bytes
 
 pub division_is : (cost : ℕ) (operands : List Tree) (x y : List ℕ) (n d : ℤ) → ((go : List ℕ → List ℕ → Applied) → two_numbers operands go ≡ go x y) → n ≡ number x → d ≡ number y → is_zero d ≡ false
-    → quotient_and_remainder cost operands ≡ new_pair_of_numbers (cost + 6 * (length x + length y)) (quotient n d) (remainder n d)
+    → quotient_and_remainder cost operands ≡ new_pair_of_numbers (cost + DIVISION_BYTE_COST * (length x + length y)) (quotient n d) (remainder n d)
 division_is cost operands x y n d read first second some =
-    let costs = cost + 6 * (length x + length y) in
-    read (λ a b. unless_zero (number b) (new_pair_of_numbers (cost + 6 * (length a + length b)) (quotient (number a) (number b)) (remainder (number a) (number b))))
+    let costs = cost + DIVISION_BYTE_COST * (length x + length y) in
+    read (λ a b. unless_zero (number b) (new_pair_of_numbers (cost + DIVISION_BYTE_COST * (length a + length b)) (quotient (number a) (number b)) (remainder (number a) (number b))))
     ∙ cond-false _ (Fails ZeroDivisor) (new_pair_of_numbers costs (quotient (number x) (number y)) (remainder (number x) (number y))) (ap is_zero (sym second) ∙ some)
     ∙ ap₂ (λ a b. new_pair_of_numbers costs (quotient a b) (remainder a b)) (sym first) (sym second)
 

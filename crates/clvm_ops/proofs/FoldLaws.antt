@@ -4,6 +4,7 @@ use Rattle.std.specs.Prelude.{fold}
 use Rattle.std.specs.Int.{w128}
 use Rattle.std.proofs.lemmas.Int.{to_z-of_z}
 use Rattle.std.proofs.lemmas.List.{drop_more, drop_all, take_rest, get_or-map, length-map}
+use Rattle.clvm_spec.specs.declared.limits.TheConstants.{NUMBER_BYTES}
 use Rattle.clvm_spec.specs.Tree.{Tree, nil, bytes_of}
 use Rattle.clvm_spec.specs.Numbers.{number, shortest_atom, is_short}
 use Rattle.clvm_spec.specs.Outcomes.{Applied, TooWide}
@@ -86,7 +87,7 @@ times_on cost size so_far atoms = from_left ◌*ℤ◌ so_far (map number atoms)
 pub record ProductSoFar (trees : List Tree) (nodes : List Node) (k : ℕ) (whole : Applied) (cost size : ℕ) (number : ℤ) : Type 0 where
   pub whole_is : whole ≡ times_on cost size number (atoms_at trees (drop k nodes))
   pub cost_few : cost < 2 ^ 32 + k * 2000
-  pub size_few : size ≤ 16
+  pub size_few : size ≤ NUMBER_BYTES
 
 next_atom : (trees : List Tree) (nodes : List Node) (k : ℕ) (d : Node) → k < length nodes
     → atoms_at trees (drop k nodes) ≡ bytes_of (tree_at trees (get_or nodes k d).0) ∷ atoms_at trees (drop (k + 1) nodes)
@@ -113,7 +114,7 @@ times_more trees nodes k d whole cost size so_far next bytes h read before held 
 pub times_step : (trees : List Tree) (nodes : List Node) (k : ℕ) (d : Node) (whole : Applied) (cost size factor new_size : ℕ) (so_far next read : ℤ) (bytes : List ℕ) → k < length nodes
     → bytes ≡ bytes_of (tree_at trees (get_or nodes k d).0) → ProductSoFar trees nodes k whole cost size so_far → FitsSigned w128 read → read ≡ number (bytes_of (tree_at trees (get_or nodes k d).0))
     → FitsSigned w128 (so_far *ℤ to_z w128 (of_z w128 read)) → next ≡ so_far *ℤ to_z w128 (of_z w128 read)
-    → factor ≡ factor_cost size (length bytes) → factor ≤ 2000 → new_size ≡ length (shortest_atom (to_z w128 (of_z w128 next))) → new_size ≤ 16
+    → factor ≡ factor_cost size (length bytes) → factor ≤ 2000 → new_size ≡ length (shortest_atom (to_z w128 (of_z w128 next))) → new_size ≤ NUMBER_BYTES
     → ProductSoFar trees nodes (k + 1) whole (cost + factor) new_size (to_z w128 (of_z w128 next))
 times_step trees nodes k d whole cost size factor new_size so_far next read bytes h is before read_fits read_is held next_is cost_is few size_is short =
     let word = to_z-of_z w128 read read_fits ∙ read_is ∙ ap number (sym is) in

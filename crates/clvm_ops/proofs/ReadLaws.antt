@@ -5,6 +5,7 @@ use Rattle.std.proofs.lemmas.Bool.{cond-true, leb-true}
 use Rattle.std.proofs.lemmas.List.{take_all, get_or-map, length-map}
 use Rattle.std.proofs.lemmas.List.Elements.{All-more, All-map, All-weaker}
 use Rattle.std.proofs.lemmas.List.Sums.{sum_by_more}
+use Rattle.clvm_spec.specs.declared.limits.TheConstants.{NUMBER_BYTES}
 use Rattle.clvm_spec.specs.Tree.{Tree, Atom, nil, bytes_of}
 use Rattle.clvm_spec.specs.Outcomes.{Applied, TooWide, Enough}
 use Rattle.clvm_spec.specs.Operators.{Reader, atom_at, number_at, two_read, each_read, atoms, numbers, lengths}
@@ -115,7 +116,7 @@ numbers_read place tree go is = number_read place tree (bytes_of tree) go is.ato
 pub record NumbersBefore (trees : List Tree) (operands : List Node) (place size : ℕ) : Type 0 where
   pub all : All IsNumberOf (take place (trees_at trees operands))
   pub size_is : size ≡ lengths (take place (atoms_at trees operands))
-  pub few : size ≤ place * 16
+  pub few : size ≤ place * NUMBER_BYTES
 
 number_of : (tree : Tree) (bytes : List ℕ) → tree ≡ Atom bytes → is_short bytes ≡ true → IsNumberOf tree
 number_of tree bytes is short = record { atom = atom_of tree bytes is; short = ap (λ t. is_short (bytes_of t)) is ∙ short }
@@ -128,7 +129,7 @@ numbers_more trees operands place size d bytes h is short before =
     record {
       all = All-more IsNumberOf (trees_at trees operands) place nil (omega arith) before.all (number_of _ bytes (tree_read trees operands place d h ∙ is) short);
       size_is = ap₂ ◌+◌ before.size_is (ap length (sym (bytes_read trees operands place d bytes h is))) ∙ sym (sum_by_more length (atoms_at trees operands) place [] (omega arith));
-      few = omega (arith, before.few, leb-true (length bytes) 16 short);
+      few = omega (arith, before.few, leb-true (length bytes) NUMBER_BYTES short);
     }
 
 pub numbers_bad : (trees : List Tree) (operands : List Node) (place size : ℕ) (d : Node) (f : OpFault) → place < length operands → NumbersBefore trees operands place size

@@ -1,6 +1,7 @@
 -- Shifts either way.
 use Rattle.std.proofs.Common.{◌≡◌, ℕ, ◌+◌, ◌*◌, ℤ, pos, true, cond, Option, List, length, sym, ap, ap₂, ◌∙◌}
 use Rattle.std.proofs.lemmas.Bool.{cond-true}
+use Rattle.clvm_spec.specs.declared.costs.TheConstants.{SHIFT_BYTE_COST}
 use Rattle.clvm_spec.specs.Tree.{Tree}
 use Rattle.clvm_spec.specs.Numbers.{number, unsigned, shortest_atom}
 use Rattle.clvm_spec.specs.Arithmetic.{if_fits, is_shift, shifted}
@@ -13,7 +14,7 @@ shift cost size n by = cond (is_shift by) (new_shifted cost size (shifted n by))
 
 shift_held : (cost size : ℕ) (n by : ℤ) (result : Option ℤ) → is_shift by ≡ true → result ≡ if_fits (shifted n by) → shift cost size n by ≡ or_wide result (new_shifted cost size)
 shift_held cost size n by result fair is =
-    cond-true _ (new_shifted cost size (shifted n by)) (Fails WrongShift) fair ∙ sym (asked_once (shifted n by) (λ m n. written (cost + 3 * (size + length (shortest_atom m))) (shortest_atom n)))
+    cond-true _ (new_shifted cost size (shifted n by)) (Fails WrongShift) fair ∙ sym (asked_once (shifted n by) (λ m n. written (cost + SHIFT_BYTE_COST * (size + length (shortest_atom m))) (shortest_atom n)))
     ∙ ap (λ held. or_wide held (new_shifted cost size)) (sym is)
 
 pub shift_of_number_is : (cost : ℕ) (operands : List Tree) (x y : List ℕ) (n by : ℤ) (result : Option ℤ) → ((go : List ℕ → List ℕ → Applied) → two_numbers operands go ≡ go x y) → n ≡ number x → by ≡ number y

@@ -2,6 +2,7 @@
 use Rattle.std.proofs.Common.{◌≡◌, ℕ, ◌+◌, ◌-◌, ◌*◌, ◌≤◌, Bool, cond, List, [], ◌∷◌, ◌++◌, length, get_or, take, refl, sym, ap, ap₂, ◌∙◌, arith}
 use Rattle.std.specs.List.{list_any, list_all}
 use Rattle.std.proofs.lemmas.List.{length-take-le}
+use Rattle.clvm_spec.specs.declared.costs.TheConstants.{TRUTH_COST}
 use Rattle.clvm_spec.specs.Tree.{Tree, Pair, nil, list_tree}
 use Rattle.clvm_spec.specs.Operators.{is_nil, is_pair, choice, pair_flag, nil_flag, any_flag, all_flag, is_true, free, flag}
 use Rattle.clvm_tree.specs.Nodes.{tree_at, IsKnown, AreKnown, Grows, Adds}
@@ -19,11 +20,11 @@ pair_flag_is cost trees a pair list e = ap (pair_flag cost) list ∙ ap (λ p. f
 pub nil_flag_is : (cost : ℕ) (trees : List Tree) (a : Tree) (empty : Bool) → trees ≡ a ∷ [] → empty ≡ is_nil a → nil_flag cost trees ≡ free (flag empty) cost
 nil_flag_is cost trees a empty list e = ap (nil_flag cost) list ∙ ap (λ p. free (flag p) cost) (sym e)
 
-pub any_flag_is : (cost : ℕ) (trees : List Tree) (operands : List Node) (holds : Bool) → holds ≡ list_any is_true (trees_at trees operands) → any_flag cost (trees_at trees operands) ≡ free (flag holds) (cost + 300 * length operands)
-any_flag_is cost trees operands holds e = ap₂ (λ b n. free (flag b) (cost + 300 * n)) (sym e) (length-trees_at trees operands)
+pub any_flag_is : (cost : ℕ) (trees : List Tree) (operands : List Node) (holds : Bool) → holds ≡ list_any is_true (trees_at trees operands) → any_flag cost (trees_at trees operands) ≡ free (flag holds) (cost + TRUTH_COST * length operands)
+any_flag_is cost trees operands holds e = ap₂ (λ b n. free (flag b) (cost + TRUTH_COST * n)) (sym e) (length-trees_at trees operands)
 
-pub all_flag_is : (cost : ℕ) (trees : List Tree) (operands : List Node) (holds : Bool) → holds ≡ list_all is_true (trees_at trees operands) → all_flag cost (trees_at trees operands) ≡ free (flag holds) (cost + 300 * length operands)
-all_flag_is cost trees operands holds e = ap₂ (λ b n. free (flag b) (cost + 300 * n)) (sym e) (length-trees_at trees operands)
+pub all_flag_is : (cost : ℕ) (trees : List Tree) (operands : List Node) (holds : Bool) → holds ≡ list_all is_true (trees_at trees operands) → all_flag cost (trees_at trees operands) ≡ free (flag holds) (cost + TRUTH_COST * length operands)
+all_flag_is cost trees operands holds e = ap₂ (λ b n. free (flag b) (cost + TRUTH_COST * n)) (sym e) (length-trees_at trees operands)
 
 -- the list of these trees, ended by this one
 abbrev pub list_with : List Tree → Tree → Tree

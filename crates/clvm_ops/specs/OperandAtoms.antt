@@ -1,6 +1,7 @@
 -- The atoms of the operands, as the operators read them. This project's own.
 use Rattle.std.specs.Prelude.{◌≡◌, ℕ, ◌*◌, ◌^◌, ◌≤◌, true, List, length, map}
 use Rattle.std.specs.List.{All}
+use Rattle.clvm_spec.specs.declared.limits.TheConstants.{NUMBER_BYTES}
 use Rattle.clvm_spec.specs.Tree.{Tree, bytes_of}
 use Rattle.clvm_spec.specs.Numbers.{is_short}
 use Rattle.clvm_spec.specs.Outcomes.{Applied}
@@ -32,4 +33,4 @@ pub record HaveNumbers (trees : List Tree) (operands : List Node) (size : ℕ) :
   pub read : AreNumbers trees operands
   pub short : AreShort trees operands
   pub size_is : size ≡ lengths (atoms_at trees operands)
-  pub few : size ≤ length operands * 16
+  pub few : size ≤ length operands * NUMBER_BYTES

@@ -90,8 +90,8 @@ fn bits_shifted_right(bits: u128, by: u32) -> i128
     if by < 128 { (bits >> by) as i128 } else { 0 }
 }
 
-/// The number times 2 to that power, rounded down; None exactly where 128 bits don't hold it. The power is from -65,535 to
-/// 65,535.
+/// The number times 2 to that power, rounded down; None exactly where 128 bits don't hold it. The power is no more than the
+/// limit of shifts, either way.
 pub fn shifted(number: i128, by: i128) -> Option<i128>
     requires { is_shift by ≡ true }
     ensures { result ≡ if_fits (shifted number by) }

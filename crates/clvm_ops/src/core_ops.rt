@@ -8,17 +8,9 @@ ghost use Rattle.clvm_tree.specs.Nodes.{tree_at, IsKnown, AreKnown};
 ghost use Rattle.clvm_tree.specs.Operators.{trees_at, outcome_by};
 ghost use Rattle.clvm_ops.specs.Answering.{Answers};
 
-use crate::division::quotient_and_remainder;
-use crate::on_atoms::{bytes_greater_flag, concat_of, equal_flag, hash_of, length_of};
-use crate::on_numbers::{
-    and_of, complement_of, difference_of, greater_flag, or_of, product_of, quotient_of, sum_of,
-    xor_of,
-};
-use crate::on_trees::{choice, first_of, new_pair, pair_flag, raised, rest_of};
-use crate::parts::part_of;
-use crate::shifts::{shift_of_bits, shift_of_number};
-use crate::truth::{all_flag, any_flag, nil_flag};
+use crate::application::Application;
 use case_table::by_operator;
+use clvm_spec::costs;
 use clvm_tree::{Answer, Fuel, Node, OpFault, Operators, Sight, Trees};
 use std::alloc::Global;
 
@@ -78,14 +70,18 @@ fn apply_code(
     ensures { Answers trees.old trees.new (length operands.now) left (applied (code ∷ []) (trees_at trees.old operands.now)) result }
 {
     macro_rules! arm {
-        ($code:literal, $name:literal, $cost:literal, quote) => {
+        ($code:ident, $name:literal, $cost:ident, quote) => {
             Err(OpFault::NoOperator)
         };
-        ($code:literal, $name:literal, $cost:literal, apply) => {
+        ($code:ident, $name:literal, $cost:ident, apply) => {
             Err(OpFault::NoOperator)
         };
-        ($code:literal, $name:literal, $cost:literal, $operator:ident) => {
-            $operator(alloc, trees, operands, $cost, left)
+        ($code:ident, $name:literal, $cost:ident, $operator:ident) => {
+            {
+            let cost = costs::$cost;
+            let application = Application { alloc, operands, cost, left };
+            application.$operator(trees)
+        }
         };
     }
     by_operator!(code, arm, Err(OpFault::NoOperator))

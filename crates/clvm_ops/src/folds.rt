@@ -3,6 +3,7 @@
 ghost use Rattle.std.specs.Prelude.{◌≡◌, ℕ, ◌+◌, ◌<◌, ◌≤◌, ◌^◌, ℤ, ◌+ℤ◌, ◌-ℤ◌, ◌*ℤ◌, true, length};
 ghost use Rattle.clvm_spec.specs.Tree.{bytes_of};
 ghost use Rattle.clvm_spec.specs.Numbers.{number, shortest_atom, is_short};
+ghost use Rattle.clvm_spec.specs.declared.limits.TheConstants.{NUMBER_BYTES};
 ghost use Rattle.clvm_spec.specs.Outcomes.{Applied};
 ghost use Rattle.clvm_spec.specs.Operators.{or_wide, new_number, from_left, factor_cost, factors_cost, terms_cost, joined, difference_of, product_of};
 ghost use Rattle.clvm_tree.specs.Nodes.{tree_at, IsKnown, AreKnown};
@@ -11,7 +12,7 @@ ghost use Rattle.clvm_ops.specs.OperandAtoms.{atoms_at, AreNumbers, AreShort};
 ghost use Rattle.clvm_ops.specs.Folds.{numbers_at, bitwise_of};
 
 use crate::operands::bytes_of;
-use clvm_spec::number_length;
+use clvm_spec::{costs, number_length};
 use clvm_tree::{Node, Trees, number};
 
 // The number of an operand that was read as one.
@@ -117,12 +118,13 @@ impl BitStep {
 
 // What a factor costs, beside a product of that size.
 fn factor_cost(size: usize, other: usize) -> u64
-    requires size { size ≤ 16 }
-    requires other { other ≤ 16 }
+    requires size { size ≤ NUMBER_BYTES }
+    requires other { other ≤ NUMBER_BYTES }
     ensures cost { result ≡ factor_cost size other }
     ensures few { result ≤ 2000 }
 {
-    (885 + 6 * (size + other) + size * other / 128) as u64
+    let lengths = (size * other) as u64 / costs::FACTOR_LENGTHS_DIVISOR;
+    costs::FACTOR_COST + costs::FACTOR_BYTE_COST * (size + other) as u64 + lengths
 }
 
 // The number times the others, None where 128 bits don't hold it or a partial product. Each factor costs by its length and
@@ -134,7 +136,7 @@ fn times_others(
     others: &[Node],
     cost: u32,
 ) -> Option<Product>
-    requires size { size ≤ 16 }
+    requires size { size ≤ NUMBER_BYTES }
     requires few { length others.now < 2 ^ 31 }
     requires known { AreKnown trees.now others.now }
     requires short { AreShort trees.now others.now }

@@ -7,11 +7,12 @@ ghost use Rattle.clvm_spec.specs.Outcomes.{Gives};
 ghost use Rattle.clvm_spec.specs.OperatorTable.{within};
 ghost use Rattle.clvm_tree.specs.Nodes.{tree_at, IsKnown};
 ghost use Rattle.clvm_tree.specs.Operators.{IsOpFault};
-ghost use Rattle.clvm_ops.specs.Answering.{Answers, IsCharged};
+ghost use Rattle.clvm_ops.specs.Answering.{CanApply, Yields, IsCharged};
 
-use clvm_spec::number_length;
+use crate::application::Application;
+use clvm_spec::limits::NUMBER_BYTES;
+use clvm_spec::{costs, number_length};
 use clvm_tree::{Answer, Fuel, Node, OpFault, Trees, Which};
-use std::alloc::Global;
 
 /// What an answer is charged.
 #[derive(Clone, Copy, Debug)]
@@ -56,81 +57,80 @@ pub(crate) fn charged(left: Fuel, cost: u128, pairs: u64, bytes: u128) -> Result
     })
 }
 
-/// Answers a node that is there already.
-pub(crate) fn give(trees: &Trees, value: Node, cost: u128, left: Fuel) -> Result<Answer, OpFault>
-    requires { IsKnown trees.now value.0 }
-    ensures { (operands : ℕ) → Answers trees.now trees.now operands left (free (tree_at trees.now value.0) cost) result }
-{
-    let _ = trees.nil();
-    Ok(charged(left, cost, 0, 0)?.answer(value))
-}
-
-/// Answers the atom 01 or nil.
-pub(crate) fn give_flag(
-    trees: &Trees,
-    holds: bool,
-    cost: u128,
-    left: Fuel,
-) -> Result<Answer, OpFault>
-    ensures { (operands : ℕ) → Answers trees.now trees.now operands left (free (flag holds) cost) result }
-{
-    if holds {
-        give(trees, trees.one(), cost, left)
-    } else {
-        give(trees, trees.nil(), cost, left)
+impl Application<'_> {
+    /// Answers a node that is there already.
+    pub(crate) fn give(&self, trees: &Trees, value: Node, cost: u128) -> Result<Answer, OpFault>
+        requires { IsKnown trees.now value.0 }
+        ensures { Yields trees.now trees.now self.now (free (tree_at trees.now value.0) cost) result }
+    {
+        let _ = trees.nil();
+        Ok(charged(self.left, cost, 0, 0)?.answer(value))
     }
-}
 
-/// Answers a new atom of these bytes.
-pub(crate) fn give_atom(
-    alloc: Global,
-    trees: &mut Trees,
-    bytes: &[u8],
-    cost: u128,
-    left: Fuel,
-) -> Result<Answer, OpFault>
-    requires { length trees.old + left.pairs + left.bytes < 2 ^ 31 }
-    ensures { (operands : ℕ) → Answers trees.old trees.new operands left (new_atom cost bytes.now) result }
-{
-    let charge = charged(left, cost, 0, bytes.len() as u128 + 8)?;
-    Ok(charge.answer(trees.atom(alloc, bytes)?))
-}
+    /// Answers the atom 01 or nil.
+    pub(crate) fn give_flag(
+        &self,
+        trees: &Trees,
+        holds: bool,
+        cost: u128,
+    ) -> Result<Answer, OpFault>
+        ensures { Yields trees.now trees.now self.now (free (flag holds) cost) result }
+    {
+        if holds {
+            self.give(trees, trees.one(), cost)
+        } else {
+            self.give(trees, trees.nil(), cost)
+        }
+    }
 
-/// Answers the shortest atom of a number. Each of its bytes costs 10 more.
-pub(crate) fn give_number(
-    alloc: Global,
-    trees: &mut Trees,
-    number: i128,
-    cost: u64,
-    left: Fuel,
-) -> Result<Answer, OpFault>
-    requires { length trees.old + left.pairs + left.bytes < 2 ^ 31 }
-    ensures { (operands : ℕ) → Answers trees.old trees.new operands left (new_number cost number) result }
-{
-    let size = number_length(number);
-    let bytes = number.to_be_bytes();
-    give_atom(
-        alloc,
-        trees,
-        &bytes[16 - size..],
-        cost as u128 + 10 * size as u128,
-        left,
-    )
-}
+    /// Answers a new atom of these bytes.
+    pub(crate) fn give_atom(
+        &self,
+        trees: &mut Trees,
+        bytes: &[u8],
+        cost: u128,
+    ) -> Result<Answer, OpFault>
+        requires { CanApply trees.old self.now }
+        ensures { Yields trees.old trees.new self.now (new_atom cost bytes.now) result }
+    {
+        let charge = charged(
+            self.left,
+            cost,
+            0,
+            bytes.len() as u128 + costs::ATOM_OVERHEAD as u128,
+        )?;
+        Ok(charge.answer(trees.atom(self.alloc, bytes)?))
+    }
 
-/// The same of a number that 128 bits may not hold.
-pub(crate) fn give_if_held(
-    alloc: Global,
-    trees: &mut Trees,
-    number: Option<i128>,
-    cost: u64,
-    left: Fuel,
-) -> Result<Answer, OpFault>
-    requires { length trees.old + left.pairs + left.bytes < 2 ^ 31 }
-    ensures { (operands : ℕ) → Answers trees.old trees.new operands left (or_wide number (new_number cost)) result }
-{
-    match number {
-        Some(number) => give_number(alloc, trees, number, cost, left),
-        None => Err(OpFault::Wide),
+    /// Answers the shortest atom of a number, whose bytes cost more.
+    pub(crate) fn give_number(
+        &self,
+        trees: &mut Trees,
+        number: i128,
+        cost: u64,
+    ) -> Result<Answer, OpFault>
+        requires { CanApply trees.old self.now }
+        ensures { Yields trees.old trees.new self.now (new_number cost number) result }
+    {
+        let size = number_length(number);
+        let bytes = number.to_be_bytes();
+        let cost = cost as u128 + costs::RESULT_BYTE_COST as u128 * size as u128;
+        self.give_atom(trees, &bytes[NUMBER_BYTES - size..], cost)
+    }
+
+    /// The same of a number that 128 bits may not hold.
+    pub(crate) fn give_if_held(
+        &self,
+        trees: &mut Trees,
+        number: Option<i128>,
+        cost: u64,
+    ) -> Result<Answer, OpFault>
+        requires { CanApply trees.old self.now }
+        ensures { Yields trees.old trees.new self.now (or_wide number (new_number cost)) result }
+    {
+        match number {
+            Some(number) => self.give_number(trees, number, cost),
+            None => Err(OpFault::Wide),
+        }
     }
 }

@@ -66,7 +66,7 @@ fn operand_fault(trees: &Trees, kind: Operands, place: u32, operand: Node) -> Re
 }
 
 /// The fault of the first operand that isn't of its kind, `Ok` where each is: an atom where a pair is needed, a pair
-/// where an atom is, or an atom of more than 16 bytes where a number is.
+/// where an atom is, or an atom too long for a number where one is.
 pub fn first_fault(trees: &Trees, kind: Operands, operands: &[Node]) -> Result<(), OpFault>
     requires known { AreKnown trees.now operands.now }
     requires few { length operands.now < 2 ^ 31 }

@@ -1,6 +1,7 @@
 //! The operators of CLVM on trees in an arena.
 #![tactic(auto)]
 
+mod application;
 pub mod arithmetic;
 mod core_ops;
 mod division;

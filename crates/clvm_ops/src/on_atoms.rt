@@ -5,79 +5,73 @@ ghost use Rattle.std.specs.List.{concat};
 ghost use Rattle.clvm_spec.specs.Operators.{equal_flag, bytes_greater_flag, joined_hash, hash_of, length_of, concat_of};
 ghost use Rattle.clvm_tree.specs.Nodes.{AreKnown};
 ghost use Rattle.clvm_tree.specs.Operators.{trees_at};
-ghost use Rattle.clvm_ops.specs.Answering.{Answers};
+ghost use Rattle.clvm_ops.specs.Answering.{CanApply, Applies};
 ghost use Rattle.clvm_ops.specs.OperandAtoms.{atoms_at};
 
-use crate::give::{charged, give_flag, give_number};
+use crate::application::Application;
+use crate::give::charged;
 use crate::operands::{atom_at, atoms, bytes_of, two_atoms};
-use clvm_tree::{Answer, Fuel, Node, OpFault, OutOfMemory, Trees};
+use clvm_spec::costs;
+use clvm_tree::{Answer, Node, OpFault, OutOfMemory, Trees};
 use sha2::{Digest, Sha256};
 use std::alloc::Global;
 
-pub(crate) fn equal_flag(
-    _alloc: Global,
-    trees: &Trees,
-    operands: &[Node],
-    cost: u32,
-    left: Fuel,
-) -> Result<Answer, OpFault>
-    requires { AreKnown trees.now operands.now }
-    ensures { Answers trees.now trees.now (length operands.now) left (equal_flag cost (trees_at trees.now operands.now)) result }
-{
-    let (first, second) = two_atoms(trees, operands)?;
-    let size = first.len() as u128 + second.len() as u128;
-    give_flag(trees, first == second, cost as u128 + size, left)
-}
+impl Application<'_> {
+    pub(crate) fn equal_flag(&self, trees: &Trees) -> Result<Answer, OpFault>
+        requires { CanApply trees.now self.now }
+        ensures { Applies equal_flag trees.now trees.now self.now result }
+    {
+        let (first, second) = two_atoms(trees, self.operands)?;
+        let size = costs::COMPARED_BYTE_COST as u128 * (first.len() as u128 + second.len() as u128);
+        self.give_flag(trees, first == second, self.cost as u128 + size)
+    }
 
-pub(crate) fn bytes_greater_flag(
-    _alloc: Global,
-    trees: &Trees,
-    operands: &[Node],
-    cost: u32,
-    left: Fuel,
-) -> Result<Answer, OpFault>
-    requires { AreKnown trees.now operands.now }
-    ensures { Answers trees.now trees.now (length operands.now) left (bytes_greater_flag cost (trees_at trees.now operands.now)) result }
-{
-    let (first, second) = two_atoms(trees, operands)?;
-    let size = first.len() as u128 + second.len() as u128;
-    give_flag(trees, first > second, cost as u128 + size, left)
-}
+    pub(crate) fn bytes_greater_flag(&self, trees: &Trees) -> Result<Answer, OpFault>
+        requires { CanApply trees.now self.now }
+        ensures { Applies bytes_greater_flag trees.now trees.now self.now result }
+    {
+        let (first, second) = two_atoms(trees, self.operands)?;
+        let size = costs::COMPARED_BYTE_COST as u128 * (first.len() as u128 + second.len() as u128);
+        self.give_flag(trees, first > second, self.cost as u128 + size)
+    }
 
-pub(crate) fn length_of(
-    alloc: Global,
-    trees: &mut Trees,
-    operands: &[Node],
-    cost: u32,
-    left: Fuel,
-) -> Result<Answer, OpFault>
-    requires known { AreKnown trees.old operands.now }
-    requires fits { length trees.old + length operands.now + left.pairs + left.bytes < 2 ^ 31 }
-    ensures { Answers trees.old trees.new (length operands.now) left (length_of cost (trees_at trees.old operands.now)) result }
-{
-    let [atom] = operands else {
-        return Err(OpFault::Count);
-    };
-    let size = atom_at(trees, 0, *atom)?.len();
-    give_number(alloc, trees, size as i128, cost as u64 + size as u64, left)
-}
+    pub(crate) fn length_of(&self, trees: &mut Trees) -> Result<Answer, OpFault>
+        requires { CanApply trees.old self.now }
+        ensures { Applies length_of trees.old trees.new self.now result }
+    {
+        let [atom] = self.operands else {
+            return Err(OpFault::Count);
+        };
+        let size = atom_at(trees, 0, *atom)?.len();
+        let cost = self.cost as u64 + costs::MEASURED_BYTE_COST * size as u64;
+        self.give_number(trees, size as i128, cost)
+    }
 
-pub(crate) fn hash_of(
-    alloc: Global,
-    trees: &mut Trees,
-    operands: &[Node],
-    cost: u32,
-    left: Fuel,
-) -> Result<Answer, OpFault>
-    requires known { AreKnown trees.old operands.now }
-    requires fits { length trees.old + length operands.now + left.pairs + left.bytes < 2 ^ 31 }
-    ensures { Answers trees.old trees.new (length operands.now) left (hash_of cost (trees_at trees.old operands.now)) result }
-{
-    let size = atoms(trees, operands)?;
-    let cost = cost as u128 + 134 * operands.len() as u128 + 2 * size;
-    let charge = charged(left, cost, 0, 32 + 8)?;
-    let hash = hash_of_all(trees, operands);
-    Ok(charge.answer(trees.atom(alloc, &hash)?))
+    pub(crate) fn hash_of(&self, trees: &mut Trees) -> Result<Answer, OpFault>
+        requires { CanApply trees.old self.now }
+        ensures { Applies hash_of trees.old trees.new self.now result }
+    {
+        let size = atoms(trees, self.operands)?;
+        let cost = self.cost as u128
+            + costs::HASHED_ATOM_COST as u128 * self.operands.len() as u128
+            + costs::HASHED_BYTE_COST as u128 * size;
+        let charge = charged(self.left, cost, 0, 32 + costs::ATOM_OVERHEAD as u128)?;
+        let hash = hash_of_all(trees, self.operands);
+        Ok(charge.answer(trees.atom(self.alloc, &hash)?))
+    }
+
+    pub(crate) fn concat_of(&self, trees: &mut Trees) -> Result<Answer, OpFault>
+        requires { CanApply trees.old self.now }
+        ensures { Applies concat_of trees.old trees.new self.now result }
+    {
+        let size = atoms(trees, self.operands)?;
+        let cost = self.cost as u128
+            + costs::JOINED_ATOM_COST as u128 * self.operands.len() as u128
+            + (costs::JOINED_BYTE_COST + costs::RESULT_BYTE_COST) as u128 * size;
+        let charge = charged(self.left, cost, 0, size + costs::ATOM_OVERHEAD as u128)?;
+        let bytes = all_bytes(self.alloc, trees, self.operands)?;
+        Ok(charge.answer(trees.atom(self.alloc, &bytes)?))
+    }
 }
 
 // The hash of the operands' bytes in a row.
@@ -90,24 +84,6 @@ fn hash_of_all(trees: &Trees, operands: &[Node]) -> [u8; 32]
         hasher.update(bytes_of(trees, *operand));
     }
     hasher.finalize()
-}
-
-pub(crate) fn concat_of(
-    alloc: Global,
-    trees: &mut Trees,
-    operands: &[Node],
-    cost: u32,
-    left: Fuel,
-) -> Result<Answer, OpFault>
-    requires known { AreKnown trees.old operands.now }
-    requires fits { length trees.old + length operands.now + left.pairs + left.bytes < 2 ^ 31 }
-    ensures { Answers trees.old trees.new (length operands.now) left (concat_of cost (trees_at trees.old operands.now)) result }
-{
-    let size = atoms(trees, operands)?;
-    let cost = cost as u128 + 135 * operands.len() as u128 + 13 * size;
-    let charge = charged(left, cost, 0, size + 8)?;
-    let bytes = all_bytes(alloc, trees, operands)?;
-    Ok(charge.answer(trees.atom(alloc, &bytes)?))
 }
 
 // The operands' bytes in a row.

@@ -6,102 +6,122 @@ ghost use Rattle.clvm_spec.specs.Arithmetic.{complement};
 ghost use Rattle.clvm_spec.specs.Operators.{sum_of, difference_of, product_of, quotient_of, is_greater, greater_flag, complement_of, bits_of, and_of, or_of, xor_of};
 ghost use Rattle.clvm_tree.specs.Nodes.{AreKnown};
 ghost use Rattle.clvm_tree.specs.Operators.{trees_at};
-ghost use Rattle.clvm_ops.specs.Answering.{Answers};
+ghost use Rattle.clvm_ops.specs.Answering.{CanApply, Applies};
 ghost use Rattle.clvm_ops.specs.Folds.{bitwise_of};
 
+use crate::application::Application;
 use crate::folds::{BitStep, difference, plus_others, whole_product};
-use crate::give::{give_flag, give_if_held, give_number};
 use crate::operands::{number_at, numbers, two_numbers};
-use clvm_spec::arithmetic;
-use clvm_tree::{Answer, Fuel, Node, OpFault, Trees, number};
-use std::alloc::Global;
+use clvm_spec::{arithmetic, costs};
+use clvm_tree::{Answer, Node, OpFault, Trees, number};
 
-pub(crate) fn sum_of(
-    alloc: Global,
-    trees: &mut Trees,
-    operands: &[Node],
-    cost: u32,
-    left: Fuel,
-) -> Result<Answer, OpFault>
-    requires known { AreKnown trees.old operands.now }
-    requires fits { length trees.old + length operands.now + left.pairs + left.bytes < 2 ^ 31 }
-    ensures { Answers trees.old trees.new (length operands.now) left (sum_of cost (trees_at trees.old operands.now)) result }
-{
-    let size = numbers(trees, operands)?;
-    let cost = cost as u64 + 320 * operands.len() as u64 + 3 * size;
-    let sum = plus_others(trees, 0, operands);
-    give_if_held(alloc, trees, sum, cost, left)
-}
-
-pub(crate) fn difference_of(
-    alloc: Global,
-    trees: &mut Trees,
-    operands: &[Node],
-    cost: u32,
-    left: Fuel,
-) -> Result<Answer, OpFault>
-    requires known { AreKnown trees.old operands.now }
-    requires fits { length trees.old + length operands.now + left.pairs + left.bytes < 2 ^ 31 }
-    ensures { Answers trees.old trees.new (length operands.now) left (difference_of cost (trees_at trees.old operands.now)) result }
-{
-    let size = numbers(trees, operands)?;
-    let cost = cost as u64 + 320 * operands.len() as u64 + 3 * size;
-    let difference = difference(trees, operands);
-    give_if_held(alloc, trees, difference, cost, left)
-}
-
-pub(crate) fn product_of(
-    alloc: Global,
-    trees: &mut Trees,
-    operands: &[Node],
-    cost: u32,
-    left: Fuel,
-) -> Result<Answer, OpFault>
-    requires known { AreKnown trees.old operands.now }
-    requires fits { length trees.old + length operands.now + left.pairs + left.bytes < 2 ^ 31 }
-    ensures { Answers trees.old trees.new (length operands.now) left (product_of cost (trees_at trees.old operands.now)) result }
-{
-    numbers(trees, operands)?;
-    match whole_product(trees, operands, cost) {
-        Some(product) => give_number(alloc, trees, product.number, product.cost, left),
-        None => Err(OpFault::Wide),
+impl Application<'_> {
+    pub(crate) fn sum_of(&self, trees: &mut Trees) -> Result<Answer, OpFault>
+        requires { CanApply trees.old self.now }
+        ensures { Applies sum_of trees.old trees.new self.now result }
+    {
+        let size = numbers(trees, self.operands)?;
+        let cost = self.cost as u64
+            + costs::TERM_COST * self.operands.len() as u64
+            + costs::TERM_BYTE_COST * size;
+        let sum = plus_others(trees, 0, self.operands);
+        self.give_if_held(trees, sum, cost)
     }
-}
 
-pub(crate) fn quotient_of(
-    alloc: Global,
-    trees: &mut Trees,
-    operands: &[Node],
-    cost: u32,
-    left: Fuel,
-) -> Result<Answer, OpFault>
-    requires known { AreKnown trees.old operands.now }
-    requires fits { length trees.old + length operands.now + left.pairs + left.bytes < 2 ^ 31 }
-    ensures { Answers trees.old trees.new (length operands.now) left (quotient_of cost (trees_at trees.old operands.now)) result }
-{
-    let (first, second) = two_numbers(trees, operands)?;
-    let cost = cost as u64 + 4 * (first.len() + second.len()) as u64;
-    let divisor = number(second);
-    if arithmetic::is_zero(divisor) {
-        return Err(OpFault::ZeroDivisor);
+    pub(crate) fn difference_of(&self, trees: &mut Trees) -> Result<Answer, OpFault>
+        requires { CanApply trees.old self.now }
+        ensures { Applies difference_of trees.old trees.new self.now result }
+    {
+        let size = numbers(trees, self.operands)?;
+        let cost = self.cost as u64
+            + costs::TERM_COST * self.operands.len() as u64
+            + costs::TERM_BYTE_COST * size;
+        let difference = difference(trees, self.operands);
+        self.give_if_held(trees, difference, cost)
     }
-    let quotient = arithmetic::quotient_of(number(first), divisor);
-    give_if_held(alloc, trees, quotient, cost, left)
-}
 
-pub(crate) fn greater_flag(
-    _alloc: Global,
-    trees: &Trees,
-    operands: &[Node],
-    cost: u32,
-    left: Fuel,
-) -> Result<Answer, OpFault>
-    requires { AreKnown trees.now operands.now }
-    ensures { Answers trees.now trees.now (length operands.now) left (greater_flag cost (trees_at trees.now operands.now)) result }
-{
-    let (first, second) = two_numbers(trees, operands)?;
-    let cost = cost as u128 + 2 * (first.len() + second.len()) as u128;
-    give_flag(trees, is_greater(first, second), cost, left)
+    pub(crate) fn product_of(&self, trees: &mut Trees) -> Result<Answer, OpFault>
+        requires { CanApply trees.old self.now }
+        ensures { Applies product_of trees.old trees.new self.now result }
+    {
+        numbers(trees, self.operands)?;
+        match whole_product(trees, self.operands, self.cost) {
+            Some(product) => self.give_number(trees, product.number, product.cost),
+            None => Err(OpFault::Wide),
+        }
+    }
+
+    pub(crate) fn quotient_of(&self, trees: &mut Trees) -> Result<Answer, OpFault>
+        requires { CanApply trees.old self.now }
+        ensures { Applies quotient_of trees.old trees.new self.now result }
+    {
+        let (first, second) = two_numbers(trees, self.operands)?;
+        let cost = self.cost as u64
+            + costs::QUOTIENT_BYTE_COST * (first.len() + second.len()) as u64;
+        let divisor = number(second);
+        if arithmetic::is_zero(divisor) {
+            return Err(OpFault::ZeroDivisor);
+        }
+        let quotient = arithmetic::quotient_of(number(first), divisor);
+        self.give_if_held(trees, quotient, cost)
+    }
+
+    pub(crate) fn greater_flag(&self, trees: &Trees) -> Result<Answer, OpFault>
+        requires { CanApply trees.now self.now }
+        ensures { Applies greater_flag trees.now trees.now self.now result }
+    {
+        let (first, second) = two_numbers(trees, self.operands)?;
+        let cost = self.cost as u64
+            + costs::GREATER_BYTE_COST * (first.len() + second.len()) as u64;
+        self.give_flag(trees, is_greater(first, second), cost as u128)
+    }
+
+    pub(crate) fn complement_of(&self, trees: &mut Trees) -> Result<Answer, OpFault>
+        requires { CanApply trees.old self.now }
+        ensures { Applies complement_of trees.old trees.new self.now result }
+    {
+        let [operand] = self.operands else {
+            return Err(OpFault::Count);
+        };
+        let bytes = number_at(trees, 0, *operand)?;
+        let cost = self.cost as u64 + costs::COMPLEMENT_BYTE_COST * bytes.len() as u64;
+        let complement = complement(bytes);
+        self.give_number(trees, complement, cost)
+    }
+
+    pub(crate) fn and_of(&self, trees: &mut Trees) -> Result<Answer, OpFault>
+        requires { CanApply trees.old self.now }
+        ensures { Applies and_of trees.old trees.new self.now result }
+    {
+        self.bits_of(trees, BitStep::And)
+    }
+
+    pub(crate) fn or_of(&self, trees: &mut Trees) -> Result<Answer, OpFault>
+        requires { CanApply trees.old self.now }
+        ensures { Applies or_of trees.old trees.new self.now result }
+    {
+        self.bits_of(trees, BitStep::Or)
+    }
+
+    pub(crate) fn xor_of(&self, trees: &mut Trees) -> Result<Answer, OpFault>
+        requires { CanApply trees.old self.now }
+        ensures { Applies xor_of trees.old trees.new self.now result }
+    {
+        self.bits_of(trees, BitStep::Xor)
+    }
+
+    // The bits of the operands, joined.
+    fn bits_of(&self, trees: &mut Trees, step: BitStep) -> Result<Answer, OpFault>
+        requires { CanApply trees.old self.now }
+        ensures { Applies (bits_of (bitwise_of step)) trees.old trees.new self.now result }
+    {
+        let size = numbers(trees, self.operands)?;
+        let cost = self.cost as u64
+            + costs::BITS_COST * self.operands.len() as u64
+            + costs::BITS_BYTE_COST * size;
+        let bits = step.of_all(trees, self.operands);
+        self.give_number(trees, bits, cost)
+    }
 }
 
 // Whether the first number is larger.
@@ -113,91 +133,10 @@ fn is_greater(first: &[u8], second: &[u8]) -> bool
     number(first) > number(second)
 }
 
-pub(crate) fn complement_of(
-    alloc: Global,
-    trees: &mut Trees,
-    operands: &[Node],
-    cost: u32,
-    left: Fuel,
-) -> Result<Answer, OpFault>
-    requires known { AreKnown trees.old operands.now }
-    requires fits { length trees.old + length operands.now + left.pairs + left.bytes < 2 ^ 31 }
-    ensures { Answers trees.old trees.new (length operands.now) left (complement_of cost (trees_at trees.old operands.now)) result }
-{
-    let [operand] = operands else {
-        return Err(OpFault::Count);
-    };
-    let bytes = number_at(trees, 0, *operand)?;
-    let cost = cost as u64 + 3 * bytes.len() as u64;
-    let complement = complement(bytes);
-    give_number(alloc, trees, complement, cost, left)
-}
-
 // -1 less the number.
 fn complement(bytes: &[u8]) -> i128
     requires { is_short bytes.now ≡ true }
     ensures { result ≡ complement (number bytes.now) }
 {
     -1 - number(bytes)
-}
-
-pub(crate) fn and_of(
-    alloc: Global,
-    trees: &mut Trees,
-    operands: &[Node],
-    cost: u32,
-    left: Fuel,
-) -> Result<Answer, OpFault>
-    requires known { AreKnown trees.old operands.now }
-    requires fits { length trees.old + length operands.now + left.pairs + left.bytes < 2 ^ 31 }
-    ensures { Answers trees.old trees.new (length operands.now) left (and_of cost (trees_at trees.old operands.now)) result }
-{
-    bits_of(alloc, trees, operands, BitStep::And, cost, left)
-}
-
-pub(crate) fn or_of(
-    alloc: Global,
-    trees: &mut Trees,
-    operands: &[Node],
-    cost: u32,
-    left: Fuel,
-) -> Result<Answer, OpFault>
-    requires known { AreKnown trees.old operands.now }
-    requires fits { length trees.old + length operands.now + left.pairs + left.bytes < 2 ^ 31 }
-    ensures { Answers trees.old trees.new (length operands.now) left (or_of cost (trees_at trees.old operands.now)) result }
-{
-    bits_of(alloc, trees, operands, BitStep::Or, cost, left)
-}
-
-pub(crate) fn xor_of(
-    alloc: Global,
-    trees: &mut Trees,
-    operands: &[Node],
-    cost: u32,
-    left: Fuel,
-) -> Result<Answer, OpFault>
-    requires known { AreKnown trees.old operands.now }
-    requires fits { length trees.old + length operands.now + left.pairs + left.bytes < 2 ^ 31 }
-    ensures { Answers trees.old trees.new (length operands.now) left (xor_of cost (trees_at trees.old operands.now)) result }
-{
-    bits_of(alloc, trees, operands, BitStep::Xor, cost, left)
-}
-
-fn bits_of(
-    alloc: Global,
-    trees: &mut Trees,
-    operands: &[Node],
-    step: BitStep,
-    cost: u32,
-    left: Fuel,
-) -> Result<Answer, OpFault>
-    requires known { AreKnown trees.old operands.now }
-    requires fits { length trees.old + length operands.now + left.pairs + left.bytes < 2 ^ 31 }
-    ensures { Answers trees.old trees.new (length operands.now) left
-        (bits_of (bitwise_of step) cost (trees_at trees.old operands.now)) result }
-{
-    let size = numbers(trees, operands)?;
-    let cost = cost as u64 + 264 * operands.len() as u64 + 3 * size;
-    let bits = step.of_all(trees, operands);
-    give_number(alloc, trees, bits, cost, left)
 }

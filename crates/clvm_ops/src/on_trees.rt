@@ -5,11 +5,84 @@ ghost use Rattle.clvm_spec.specs.Tree.{list_tree};
 ghost use Rattle.clvm_spec.specs.Operators.{is_nil, is_pair, choice, new_pair, first_of, rest_of, pair_flag, raised};
 ghost use Rattle.clvm_tree.specs.Nodes.{tree_at, IsKnown, AreKnown, Grows};
 ghost use Rattle.clvm_tree.specs.Operators.{trees_at};
-ghost use Rattle.clvm_ops.specs.Answering.{Answers};
+ghost use Rattle.clvm_ops.specs.Answering.{CanApply, Applies};
 
-use crate::give::{charged, give, give_flag};
-use clvm_tree::{Answer, Fuel, Node, OpFault, OutOfMemory, Sight, Trees};
+use crate::application::Application;
+use crate::give::charged;
+use clvm_tree::{Answer, Node, OpFault, OutOfMemory, Sight, Trees};
 use std::alloc::Global;
+
+impl Application<'_> {
+    pub(crate) fn choice(&self, trees: &Trees) -> Result<Answer, OpFault>
+        requires { CanApply trees.now self.now }
+        ensures { Applies choice trees.now trees.now self.now result }
+    {
+        let [test, yes, no] = self.operands else {
+            return Err(OpFault::Count);
+        };
+        if is_nil(trees, *test) {
+            self.give(trees, *no, self.cost as u128)
+        } else {
+            self.give(trees, *yes, self.cost as u128)
+        }
+    }
+
+    pub(crate) fn new_pair(&self, trees: &mut Trees) -> Result<Answer, OpFault>
+        requires { CanApply trees.old self.now }
+        ensures { Applies new_pair trees.old trees.new self.now result }
+    {
+        let [first, rest] = self.operands else {
+            return Err(OpFault::Count);
+        };
+        let charge = charged(self.left, self.cost as u128, 1, 0)?;
+        Ok(charge.answer(trees.pair(self.alloc, *first, *rest)?))
+    }
+
+    pub(crate) fn first_of(&self, trees: &Trees) -> Result<Answer, OpFault>
+        requires { CanApply trees.now self.now }
+        ensures { Applies first_of trees.now trees.now self.now result }
+    {
+        let [pair] = self.operands else {
+            return Err(OpFault::Count);
+        };
+        match trees.look(*pair) {
+            Sight::Parts(first, _) => self.give(trees, first, self.cost as u128),
+            Sight::Bytes(_) => Err(OpFault::Operand(0)),
+        }
+    }
+
+    pub(crate) fn rest_of(&self, trees: &Trees) -> Result<Answer, OpFault>
+        requires { CanApply trees.now self.now }
+        ensures { Applies rest_of trees.now trees.now self.now result }
+    {
+        let [pair] = self.operands else {
+            return Err(OpFault::Count);
+        };
+        match trees.look(*pair) {
+            Sight::Parts(_, rest) => self.give(trees, rest, self.cost as u128),
+            Sight::Bytes(_) => Err(OpFault::Operand(0)),
+        }
+    }
+
+    pub(crate) fn pair_flag(&self, trees: &Trees) -> Result<Answer, OpFault>
+        requires { CanApply trees.now self.now }
+        ensures { Applies pair_flag trees.now trees.now self.now result }
+    {
+        let [operand] = self.operands else {
+            return Err(OpFault::Count);
+        };
+        self.give_flag(trees, is_pair(trees, *operand), self.cost as u128)
+    }
+
+    /// Raises the list of the operands, which takes one pair for each beside the fuel.
+    pub(crate) fn raised(&self, trees: &mut Trees) -> Result<Answer, OpFault>
+        requires { CanApply trees.old self.now }
+        ensures { Applies raised trees.old trees.new self.now result }
+    {
+        let list = list_of(self.alloc, trees, self.operands)?;
+        Err(OpFault::Raised(list))
+    }
+}
 
 /// Whether the node is the empty atom.
 pub(crate) fn is_nil(trees: &Trees, node: Node) -> bool
@@ -19,120 +92,12 @@ pub(crate) fn is_nil(trees: &Trees, node: Node) -> bool
     matches!(trees.look(node), Sight::Bytes([]))
 }
 
-pub(crate) fn choice(
-    _alloc: Global,
-    trees: &Trees,
-    operands: &[Node],
-    cost: u32,
-    left: Fuel,
-) -> Result<Answer, OpFault>
-    requires { AreKnown trees.now operands.now }
-    ensures { Answers trees.now trees.now (length operands.now) left (choice cost (trees_at trees.now operands.now)) result }
-{
-    let [test, yes, no] = operands else {
-        return Err(OpFault::Count);
-    };
-    if is_nil(trees, *test) {
-        give(trees, *no, cost as u128, left)
-    } else {
-        give(trees, *yes, cost as u128, left)
-    }
-}
-
-pub(crate) fn new_pair(
-    alloc: Global,
-    trees: &mut Trees,
-    operands: &[Node],
-    cost: u32,
-    left: Fuel,
-) -> Result<Answer, OpFault>
-    requires known { AreKnown trees.old operands.now }
-    requires fits { length trees.old + length operands.now + left.pairs + left.bytes < 2 ^ 31 }
-    ensures { Answers trees.old trees.new (length operands.now) left (new_pair cost (trees_at trees.old operands.now)) result }
-{
-    let [first, rest] = operands else {
-        return Err(OpFault::Count);
-    };
-    let charge = charged(left, cost as u128, 1, 0)?;
-    Ok(charge.answer(trees.pair(alloc, *first, *rest)?))
-}
-
-pub(crate) fn first_of(
-    _alloc: Global,
-    trees: &Trees,
-    operands: &[Node],
-    cost: u32,
-    left: Fuel,
-) -> Result<Answer, OpFault>
-    requires { AreKnown trees.now operands.now }
-    ensures { Answers trees.now trees.now (length operands.now) left (first_of cost (trees_at trees.now operands.now)) result }
-{
-    let [pair] = operands else {
-        return Err(OpFault::Count);
-    };
-    match trees.look(*pair) {
-        Sight::Parts(first, _) => give(trees, first, cost as u128, left),
-        Sight::Bytes(_) => Err(OpFault::Operand(0)),
-    }
-}
-
-pub(crate) fn rest_of(
-    _alloc: Global,
-    trees: &Trees,
-    operands: &[Node],
-    cost: u32,
-    left: Fuel,
-) -> Result<Answer, OpFault>
-    requires { AreKnown trees.now operands.now }
-    ensures { Answers trees.now trees.now (length operands.now) left (rest_of cost (trees_at trees.now operands.now)) result }
-{
-    let [pair] = operands else {
-        return Err(OpFault::Count);
-    };
-    match trees.look(*pair) {
-        Sight::Parts(_, rest) => give(trees, rest, cost as u128, left),
-        Sight::Bytes(_) => Err(OpFault::Operand(0)),
-    }
-}
-
-pub(crate) fn pair_flag(
-    _alloc: Global,
-    trees: &Trees,
-    operands: &[Node],
-    cost: u32,
-    left: Fuel,
-) -> Result<Answer, OpFault>
-    requires { AreKnown trees.now operands.now }
-    ensures { Answers trees.now trees.now (length operands.now) left (pair_flag cost (trees_at trees.now operands.now)) result }
-{
-    let [operand] = operands else {
-        return Err(OpFault::Count);
-    };
-    give_flag(trees, is_pair(trees, *operand), cost as u128, left)
-}
-
 // Whether the node is a pair.
 fn is_pair(trees: &Trees, node: Node) -> bool
     requires { IsKnown trees.now node.0 }
     ensures { result ≡ is_pair (tree_at trees.now node.0) }
 {
     matches!(trees.look(node), Sight::Parts(_, _))
-}
-
-/// Raises the list of the operands, which takes one pair for each beside the fuel.
-pub(crate) fn raised(
-    alloc: Global,
-    trees: &mut Trees,
-    operands: &[Node],
-    _cost: u32,
-    left: Fuel,
-) -> Result<Answer, OpFault>
-    requires known { AreKnown trees.old operands.now }
-    requires fits { length trees.old + length operands.now + left.pairs + left.bytes < 2 ^ 31 }
-    ensures { Answers trees.old trees.new (length operands.now) left (raised _cost (trees_at trees.old operands.now)) result }
-{
-    let list = list_of(alloc, trees, operands)?;
-    Err(OpFault::Raised(list))
 }
 
 // The list of the operands.

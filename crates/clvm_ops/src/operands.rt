@@ -9,6 +9,7 @@ ghost use Rattle.clvm_tree.specs.Nodes.{tree_at, IsKnown, AreKnown};
 ghost use Rattle.clvm_tree.specs.Operators.{trees_at, IsOpFault};
 ghost use Rattle.clvm_ops.specs.OperandAtoms.{HaveAtoms, HaveNumbers};
 
+use clvm_spec::limits::NUMBER_BYTES;
 use clvm_tree::{Node, OpFault, Sight, Trees};
 
 /// The bytes of an atom; a pair has none.
@@ -51,11 +52,11 @@ pub(crate) fn number_at(trees: &Trees, place: u32, operand: Node) -> Result<&[u8
     }
 }
 
-/// Whether an atom has at most the 16 bytes of a number.
+/// Whether an atom has no more bytes than a number.
 pub(crate) fn is_short(bytes: &[u8]) -> bool
     ensures { result ≡ is_short bytes.now }
 {
-    bytes.len() <= 16
+    bytes.len() <= NUMBER_BYTES
 }
 
 /// The bytes of two operands, where two atoms are needed.

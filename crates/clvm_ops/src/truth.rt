@@ -1,66 +1,48 @@
 //! Operators on whether trees are nil.
 
-ghost use Rattle.std.specs.Prelude.{◌≡◌, length};
+ghost use Rattle.std.specs.Prelude.{◌≡◌, ◌+◌, ◌*◌, length};
+ghost use Rattle.clvm_spec.specs.declared.costs.TheConstants.{TRUTH_COST};
 ghost use Rattle.clvm_spec.specs.Operators.{is_true, is_one_true, are_all_true, nil_flag, any_flag, all_flag};
 ghost use Rattle.clvm_tree.specs.Nodes.{AreKnown};
 ghost use Rattle.clvm_tree.specs.Operators.{trees_at};
-ghost use Rattle.clvm_ops.specs.Answering.{Answers};
+ghost use Rattle.clvm_ops.specs.Answering.{CanApply, Applies};
 
-use crate::give::give_flag;
+use crate::application::Application;
 use crate::on_trees::is_nil;
-use clvm_tree::{Answer, Fuel, Node, OpFault, Trees};
-use std::alloc::Global;
+use clvm_spec::costs;
+use clvm_tree::{Answer, Node, OpFault, Trees};
 
-pub(crate) fn nil_flag(
-    _alloc: Global,
-    trees: &Trees,
-    operands: &[Node],
-    cost: u32,
-    left: Fuel,
-) -> Result<Answer, OpFault>
-    requires { AreKnown trees.now operands.now }
-    ensures { Answers trees.now trees.now (length operands.now) left (nil_flag cost (trees_at trees.now operands.now)) result }
-{
-    let [operand] = operands else {
-        return Err(OpFault::Count);
-    };
-    give_flag(trees, is_nil(trees, *operand), cost as u128, left)
-}
+impl Application<'_> {
+    pub(crate) fn nil_flag(&self, trees: &Trees) -> Result<Answer, OpFault>
+        requires { CanApply trees.now self.now }
+        ensures { Applies nil_flag trees.now trees.now self.now result }
+    {
+        let [operand] = self.operands else {
+            return Err(OpFault::Count);
+        };
+        self.give_flag(trees, is_nil(trees, *operand), self.cost as u128)
+    }
 
-pub(crate) fn any_flag(
-    _alloc: Global,
-    trees: &Trees,
-    operands: &[Node],
-    cost: u32,
-    left: Fuel,
-) -> Result<Answer, OpFault>
-    requires { AreKnown trees.now operands.now }
-    ensures { Answers trees.now trees.now (length operands.now) left (any_flag cost (trees_at trees.now operands.now)) result }
-{
-    give_flag(
-        trees,
-        is_one_true(trees, operands),
-        cost as u128 + 300 * operands.len() as u128,
-        left,
-    )
-}
+    pub(crate) fn any_flag(&self, trees: &Trees) -> Result<Answer, OpFault>
+        requires { CanApply trees.now self.now }
+        ensures { Applies any_flag trees.now trees.now self.now result }
+    {
+        self.give_flag(trees, is_one_true(trees, self.operands), self.truth_cost())
+    }
 
-pub(crate) fn all_flag(
-    _alloc: Global,
-    trees: &Trees,
-    operands: &[Node],
-    cost: u32,
-    left: Fuel,
-) -> Result<Answer, OpFault>
-    requires { AreKnown trees.now operands.now }
-    ensures { Answers trees.now trees.now (length operands.now) left (all_flag cost (trees_at trees.now operands.now)) result }
-{
-    give_flag(
-        trees,
-        are_all_true(trees, operands),
-        cost as u128 + 300 * operands.len() as u128,
-        left,
-    )
+    pub(crate) fn all_flag(&self, trees: &Trees) -> Result<Answer, OpFault>
+        requires { CanApply trees.now self.now }
+        ensures { Applies all_flag trees.now trees.now self.now result }
+    {
+        self.give_flag(trees, are_all_true(trees, self.operands), self.truth_cost())
+    }
+
+    // What it costs to ask for the truth of each operand.
+    fn truth_cost(&self) -> u128
+        ensures { result ≡ self.now.cost + TRUTH_COST * length self.now.operands.now }
+    {
+        self.cost as u128 + costs::TRUTH_COST as u128 * self.operands.len() as u128
+    }
 }
 
 // Whether one of them isn't nil.

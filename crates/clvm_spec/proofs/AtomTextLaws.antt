@@ -13,6 +13,7 @@ use Rattle.std.proofs.lemmas.Int.Digits.{all_below_base_digits_of, number_digits
 use Rattle.std.proofs.lemmas.Fmt.{decimal-digits_of}
 use Rattle.std.proofs.lemmas.Bool.Decides.{nat_tests}
 use Rattle.std.proofs.lemmas.Slice.Eq.{bytes_eq-Decides}
+use Rattle.std.proofs.lemmas.Bool.{and_parts}
 use Rattle.clvm_spec.specs.declared.scan_kind.ScanKind.TheVariants.{Number}
 use Rattle.clvm_spec.specs.Tree.{Atom}
 use Rattle.clvm_spec.specs.Numbers.{number, unsigned, shortest_atom}
@@ -162,18 +163,10 @@ small_number (b ∷ c ∷ []) h e =
     small_if (nat_lt b 0x80) (unsigned (b ∷ c ∷ [])) (unsigned ((255 - b) ∷ (255 - c) ∷ [])) (omega arith) (omega arith)
 small_number (b ∷ c ∷ d ∷ bytes) h e = let short : length (b ∷ c ∷ d ∷ bytes) ≤ 2 = grind (arith, nat_tests) in absurd (omega arith)
 
-and_first : (a b : Bool) → (a && b) ≡ true → a ≡ true
-and_first true b e = refl
-and_first false b e = cc
-
-and_second : (a b : Bool) → (a && b) ≡ true → b ≡ true
-and_second true b e = e
-and_second false b e = cc
-
 number_word : (bytes : List ℕ) → AllBelowBase 256 bytes → is_decimal bytes ≡ true → IsWordOf bytes (signed_decimal (number bytes))
 number_word bytes h e =
-    signed_word bytes (number bytes) (small_number bytes h (and_first (nat_le (length bytes) 2) (bytes_eq (shortest_atom (number bytes)) bytes) e))
-    ((bytes_eq-Decides (shortest_atom (number bytes)) bytes).0 (and_second (nat_le (length bytes) 2) (bytes_eq (shortest_atom (number bytes)) bytes) e))
+    signed_word bytes (number bytes) (small_number bytes h (and_parts (nat_le (length bytes) 2) (bytes_eq (shortest_atom (number bytes)) bytes) e).0)
+    ((bytes_eq-Decides (shortest_atom (number bytes)) bytes).0 (and_parts (nat_le (length bytes) 2) (bytes_eq (shortest_atom (number bytes)) bytes) e).1)
 
 word_if : (atom : List ℕ) (test : Bool) (a b : List ℕ) → (test ≡ true → IsWordOf atom a) → IsWordOf atom b → IsWordOf atom (cond test a b)
 word_if atom true a b ha hb = ha refl

@@ -10,6 +10,8 @@ use Rattle.clvm_spec.specs.Tree.{Tree, Atom, Pair, bytes_of}
 use Rattle.clvm_spec.specs.Numbers.{number, shortest_atom}
 use Rattle.clvm_spec.specs.Arithmetic.{fits_128, if_fits, is_zero, quotient, remainder}
 use Rattle.clvm_spec.specs.Outcomes.{Why, NoStep, NotAList, WrongCount, WrongOperand, Raised, ZeroDivisor, WrongShift, NoOperator, Applied, Gives, Fails, TooWide}
+use Rattle.clvm_spec.specs.declared.op_codes.TheConstants.{PART}
+use Rattle.clvm_spec.specs.declared.costs.TheConstants.{PART_COST, LENGTH_COST, SUM_COST, DIFFERENCE_COST, PRODUCT_COST, DIVISION_COST, DIVISION_BYTE_COST, MEASURED_BYTE_COST}
 use Rattle.clvm_spec.specs.Operators as op
 use Rattle.clvm_spec.specs.declared.operands.Operands.{Operands}
 use Rattle.clvm_spec.specs.declared.operands.Operands.TheVariants.{Any, Atoms, Numbers, AtomAndNumbers}
@@ -212,19 +214,19 @@ in_product : {size : ℕ} (cost : ℕ) (first : List ℕ) (others : List (List �
 in_product cost first others h = in_from_left ◌*ℤ◌ (number first) (map number others) (cost + op.factors_cost (length first) (number first) others) (omega arith) (omega arith)
 
 -- the length of an atom, which 128 bits hold where it is below 2 ^ 64
-in_length : (cost : ℕ) (a : Tree) (bytes : List ℕ) → 1 ≤ cost → a ≡ Atom bytes → IsGiven Atoms cost (sum_by atom_length (a ∷ [])) (op.new_number (cost + length bytes) (pos (length bytes)))
+in_length : (cost : ℕ) (a : Tree) (bytes : List ℕ) → 1 ≤ cost → a ≡ Atom bytes → IsGiven Atoms cost (sum_by atom_length (a ∷ [])) (op.new_number (cost + MEASURED_BYTE_COST * length bytes) (pos (length bytes)))
 unfolding GivenOf
 in_length cost a bytes h is =
     let size : sum_by atom_length (a ∷ []) ≡ length bytes = ap (λ (t : Tree). 0 + atom_length t) is ∙ omega arith in
-    cond_both (fits_128 (pos (length bytes))) _ None (λ held. IsGiven Atoms cost (sum_by atom_length (a ∷ [])) (op.or_wide held (λ n. op.written (cost + length bytes) (shortest_atom n))))
+    cond_both (fits_128 (pos (length bytes))) _ None (λ held. IsGiven Atoms cost (sum_by atom_length (a ∷ [])) (op.or_wide held (λ n. op.written (cost + MEASURED_BYTE_COST * length bytes) (shortest_atom n))))
     (λ e. gives (omega arith) (omega arith))
     (λ e. let large = ltb-false (length bytes) (2 ^ 127) e in record { fact = λ small. absurd (omega (arith, size)) })
 
 in_quotient_and_remainder : {size : ℕ} (cost : ℕ) (a b : List ℕ) → 1 ≤ cost
-    → IsGiven Numbers cost size (op.unless_zero (number b) (op.new_pair_of_numbers (cost + 6 * (length a + length b)) (quotient (number a) (number b)) (remainder (number a) (number b))))
+    → IsGiven Numbers cost size (op.unless_zero (number b) (op.new_pair_of_numbers (cost + DIVISION_BYTE_COST * (length a + length b)) (quotient (number a) (number b)) (remainder (number a) (number b))))
 unfolding FaultOf
 in_quotient_and_remainder cost a b h =
-    either (is_zero (number b)) (Fails ZeroDivisor) _ (fails tt) (in_new_pair (cost + 6 * (length a + length b)) (quotient (number a) (number b)) (remainder (number a) (number b)) (omega arith) (omega arith))
+    either (is_zero (number b)) (Fails ZeroDivisor) _ (fails tt) (in_new_pair (cost + DIVISION_BYTE_COST * (length a + length b)) (quotient (number a) (number b)) (remainder (number a) (number b)) (omega arith) (omega arith))
 
 in_part : {cost size : ℕ} (part : Option (List ℕ)) → 1 ≤ cost → IsGiven AtomAndNumbers cost size (op.part_or_fault cost part)
 unfolding FaultOf
@@ -237,7 +239,7 @@ IsColumned : Operator → Type 0
 IsColumned row = (operands : List Tree) → Comes row operands (row.applied operands)
 
 substr : Operator
-substr = operator 12 (codes "substr") 2 (Some 3) AtomAndNumbers 1 op.part_of
+substr = operator PART (codes "substr") 2 (Some 3) AtomAndNumbers PART_COST op.part_of
 
 substr_columns : IsColumned substr
 unfolding IsColumned ReadsAll substr
@@ -268,19 +270,19 @@ columns = (
                   (
                     substr_columns,
                     (
-                      (λ operands. in_one _ operands _ refl refl (λ a. in_atom 0 a [] _ (λ t. refl) (λ bytes is. fair _ refl (in_length 173 a bytes (omega arith) is)))),
+                      (λ operands. in_one _ operands _ refl refl (λ a. in_atom 0 a [] _ (λ t. refl) (λ bytes is. fair _ refl (in_length LENGTH_COST a bytes (omega arith) is)))),
                       (
                         (λ operands. in_any _ operands _ refl refl (in_atoms 0 operands _ (λ atoms. gives (omega arith) (omega arith)))),
                         (
-                          (λ operands. in_any _ operands _ refl refl (in_numbers 0 operands _ (λ atoms. in_sum 99 ◌+ℤ◌ (pos 0) (map number atoms) atoms (omega arith)))),
+                          (λ operands. in_any _ operands _ refl refl (in_numbers 0 operands _ (λ atoms. in_sum SUM_COST ◌+ℤ◌ (pos 0) (map number atoms) atoms (omega arith)))),
                           (
-                            (λ operands. in_any _ operands _ refl refl (in_numbers 0 operands _ (λ atoms. in_sum 99 ◌-ℤ◌ (number (get_or atoms 0 [])) (map number (drop 1 atoms)) atoms (omega arith)))),
+                            (λ operands. in_any _ operands _ refl refl (in_numbers 0 operands _ (λ atoms. in_sum DIFFERENCE_COST ◌-ℤ◌ (number (get_or atoms 0 [])) (map number (drop 1 atoms)) atoms (omega arith)))),
                             (
-                              (λ operands. in_any _ operands _ refl refl (in_numbers 0 operands _ (λ atoms. in_product 92 (get_or atoms 0 (1 ∷ [])) (drop 1 atoms) (omega arith)))),
+                              (λ operands. in_any _ operands _ refl refl (in_numbers 0 operands _ (λ atoms. in_product PRODUCT_COST (get_or atoms 0 (1 ∷ [])) (drop 1 atoms) (omega arith)))),
                               (
                                 (λ operands. in_two_numbers _ operands _ refl refl refl (λ a b size. either _ _ _ (fails tt) (in_held _ (λ n. gives (omega arith) (omega arith))))),
                                 (
-                                  (λ operands. in_two_numbers _ operands _ refl refl refl (λ a b size. in_quotient_and_remainder 1116 a b (omega arith))),
+                                  (λ operands. in_two_numbers _ operands _ refl refl refl (λ a b size. in_quotient_and_remainder DIVISION_COST a b (omega arith))),
                                   (
                                     (λ operands. in_two_numbers _ operands _ refl refl refl (λ a b size. gives (omega arith) (omega arith))),
                                     (

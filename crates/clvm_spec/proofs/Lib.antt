@@ -29,3 +29,6 @@ pub mod FreePlaces
 pub mod AtomTextLaws
 pub mod PrintedLaws
 pub mod PathLaws
+pub mod CurryingLaws
+mod CurryingRows
+pub mod ListLaws

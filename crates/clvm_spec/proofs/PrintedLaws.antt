@@ -4,6 +4,7 @@ use Rattle.std.specs.List.{list_all, prefix_len}
 use Rattle.std.proofs.lemmas.List.{append-nil}
 use Rattle.std.proofs.lemmas.Bool.Decides.{nat_tests}
 use Rattle.std.proofs.Math.Seq.{take-append_seam}
+use Rattle.std.proofs.lemmas.Bool.{and_parts}
 use Rattle.clvm_spec.specs.declared.scan_kind.ScanKind.TheVariants.{Deep, Byte}
 use Rattle.clvm_spec.specs.Tree.{Tree, Atom, Pair, nil}
 use Rattle.clvm_spec.specs.Places.{place_of}
@@ -27,20 +28,12 @@ stops : (rest : List ℕ) → EndsWords rest → prefix_len is_word_byte rest �
 stops [] h = refl
 stops (b ∷ rest) h = ap (λ t. cond t (1 + prefix_len is_word_byte rest) 0) h
 
-and_first : (a b : Bool) → (a && b) ≡ true → a ≡ true
-and_first true b e = refl
-and_first false b e = cc
-
-and_second : (a b : Bool) → (a && b) ≡ true → b ≡ true
-and_second true b e = e
-and_second false b e = cc
-
 -- how long a word is that ends where the rest begins
 word_size : (word rest : List ℕ) → list_all is_word_byte word ≡ true → EndsWords rest → prefix_len is_word_byte (word ++ rest) ≡ length word
 word_size [] rest h e = stops rest e
 word_size (b ∷ word) rest h e =
-    ap (λ t. cond t (1 + prefix_len is_word_byte (word ++ rest)) 0) (and_first (is_word_byte b) (list_all is_word_byte word) h)
-    ∙ ap (λ n. 1 + n) (word_size word rest (and_second (is_word_byte b) (list_all is_word_byte word) h) e) ∙ one_more (length word)
+    ap (λ t. cond t (1 + prefix_len is_word_byte (word ++ rest)) 0) (and_parts (is_word_byte b) (list_all is_word_byte word) h).0
+    ∙ ap (λ n. 1 + n) (word_size word rest (and_parts (is_word_byte b) (list_all is_word_byte word) h).1 e) ∙ one_more (length word)
   where
     one_more : (n : ℕ) → 1 + n ≡ suc n
     one_more n = omega arith
@@ -60,7 +53,7 @@ record IsPlainByte (b : ℕ) : Type 0 where
 
 plain_byte : (b : ℕ) → is_word_byte b ≡ true → IsPlainByte b
 plain_byte b e = record {
-  plain = and_first (is_plain b) (not (is_mark b)) e;
+  plain = (and_parts (is_plain b) (not (is_mark b)) e).0;
   space = grind (arith, nat_tests);
   semicolon = grind (arith, nat_tests);
   opening = grind (arith, nat_tests);
@@ -80,7 +73,7 @@ at_plain b bytes p =
 word_token_at : (b : ℕ) (word rest : List ℕ) (token : Token) → list_all is_word_byte (b ∷ word) ≡ true → EndsWords rest → word_token (b ∷ word) ≡ Ok token →
     token_of ((b ∷ word) ++ rest) ≡ Took token ((b ∷ word) ++ rest) rest
 word_token_at b word rest token h e t =
-    at_plain b (word ++ rest) (plain_byte b (and_first (is_word_byte b) (list_all is_word_byte word) h))
+    at_plain b (word ++ rest) (plain_byte b (and_parts (is_word_byte b) (list_all is_word_byte word) h).0)
     ∙ ap (λ size. word_front ((b ∷ word) ++ rest) size (word_token (take size ((b ∷ word) ++ rest)))) (word_size (b ∷ word) rest h e)
     ∙ ap (λ w. word_front ((b ∷ word) ++ rest) (length (b ∷ word)) (word_token w)) (take-append_seam (b ∷ word) rest)
     ∙ ap (word_front ((b ∷ word) ++ rest) (length (b ∷ word))) t
@@ -247,7 +240,7 @@ nests_byte room b rest e =
 nests_word : (room : ℕ) (word rest : List ℕ) → list_all is_word_byte word ≡ true → nests_within room (word ++ rest) ≡ nests_within room rest
 nests_word room [] rest h = refl
 nests_word room (b ∷ word) rest h =
-    nests_byte room b (word ++ rest) (and_first (is_word_byte b) (list_all is_word_byte word) h) ∙ nests_word room word rest (and_second (is_word_byte b) (list_all is_word_byte word) h)
+    nests_byte room b (word ++ rest) (and_parts (is_word_byte b) (list_all is_word_byte word) h).0 ∙ nests_word room word rest (and_parts (is_word_byte b) (list_all is_word_byte word) h).1
 
 -- how much room there is behind a tree's text
 abbrev room_after : Position → ℕ → ℕ

@@ -9,7 +9,9 @@ use Rattle.clvm_spec.specs.Tree.{Tree, Atom, Pair, nil}
 use Rattle.clvm_spec.specs.ProperList.{elements}
 use Rattle.clvm_spec.specs.Path.{PathValue, Reached, Astray, path_value, path_cost}
 use Rattle.clvm_spec.specs.Outcomes.{Why, NoOperator, WrongCount, NotAList, NoStep, Applied, Gives, Fails, TooWide, Enough, Outcome, Done, Failed, Spent, Wide}
-use Rattle.clvm_spec.specs.OperatorTable.{quote_cost, apply_cost, applied, unless_lacking, within}
+use Rattle.clvm_spec.specs.declared.op_codes.TheConstants.{QUOTE}
+use Rattle.clvm_spec.specs.declared.costs.TheConstants.{QUOTE_COST, APPLY_COST}
+use Rattle.clvm_spec.specs.OperatorTable.{applied, unless_lacking, within}
 use Rattle.clvm_spec.specs.Evaluation.{if_done, charge, is_byte, at_path, Evaluator, goes_on, in_form, apply_values, values_of, is_too_deep, deeper, operator_form, evaluated_by, evaluated_within}
 use Rattle.clvm_spec.specs.Spending.{Spending, lack, fuel_less}
 use Rattle.clvm_spec.specs.FuelLaws.{IsAtLeast}
@@ -200,7 +202,7 @@ module _ (evaluate : Evaluator) (steady : (program env : Tree) (depth : ℕ) →
   steady_goes_on : (form : Tree) (depth : ℕ) (values : List Tree) → IsSteady (goes_on evaluate form depth values)
   steady_goes_on form depth [] = steady_failed WrongCount form
   steady_goes_on form depth (program ∷ []) = steady_failed WrongCount form
-  steady_goes_on form depth (program ∷ env ∷ []) = steady_charge apply_cost (evaluate program env depth) (steady program env depth)
+  steady_goes_on form depth (program ∷ env ∷ []) = steady_charge APPLY_COST (evaluate program env depth) (steady program env depth)
   steady_goes_on form depth (program ∷ env ∷ c ∷ more) = steady_failed WrongCount form
 
   steady_apply : (code : List ℕ) (form : Tree) (depth : ℕ) (values : List Tree) → IsSteady (apply_values evaluate code form depth values)
@@ -218,8 +220,8 @@ module _ (evaluate : Evaluator) (steady : (program env : Tree) (depth : ℕ) →
   steady_by (Atom path) env depth = steady_path path (path_value path env)
   steady_by (Pair (Pair a b) rest) env depth = steady_failed NoOperator (Pair (Pair a b) rest)
   steady_by (Pair (Atom code) rest) env depth =
-      either (is_byte 1 code) (λ fuel. charge quote_cost fuel (Done rest)) (operator_form evaluate code (Pair (Atom code) rest) env depth (elements rest))
-      (steady_charge quote_cost (Done rest) (steady_done rest)) (steady_form code (Pair (Atom code) rest) env depth (elements rest))
+      either (is_byte QUOTE code) (λ fuel. charge QUOTE_COST fuel (Done rest)) (operator_form evaluate code (Pair (Atom code) rest) env depth (elements rest))
+      (steady_charge QUOTE_COST (Done rest) (steady_done rest)) (steady_form code (Pair (Atom code) rest) env depth (elements rest))
 
 pub steady_within : (steps : ℕ) (program env : Tree) (depth : ℕ) → IsSteady (evaluated_within steps program env depth)
 steady_within zero program env depth = λ fuel. spent Cost

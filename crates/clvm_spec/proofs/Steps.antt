@@ -6,7 +6,7 @@ use Rattle.clvm_spec.specs.declared.fuel.Which.TheVariants.{Depth}
 use Rattle.clvm_spec.specs.Tree.{Tree, Atom, Pair}
 use Rattle.clvm_spec.specs.ProperList.{elements}
 use Rattle.clvm_spec.specs.Outcomes.{Why, Outcome, Done, Failed, Spent, Wide}
-use Rattle.clvm_spec.specs.OperatorTable.{apply_cost}
+use Rattle.clvm_spec.specs.declared.costs.TheConstants.{APPLY_COST}
 use Rattle.clvm_spec.specs.Evaluation.{if_done, charge, is_byte, Evaluator, goes_on, apply_values, values_of, is_too_deep, deeper, operator_form, evaluated_by, evaluated_within, evaluation}
 use Rattle.clvm_spec.specs.Spending.{Spending, fuel_less}
 use Rattle.clvm_spec.specs.FuelLaws.{IsAtLeast, DoneRunUsesTheSame, MoreFuelKeepsFailures, MoreFuelKeepsWide, StepsAreWithinTheCost, EvaluationIsItsStep}
@@ -66,7 +66,7 @@ module _ (c : ℕ) (evaluate evaluate' : Evaluator) (steady : (program env : Tre
   unfolding Same
   same_goes_on form depth [] fuel h = refl
   same_goes_on form depth (program ∷ []) fuel h = refl
-  same_goes_on form depth (program ∷ env ∷ []) fuel h = same_charge apply_cost c _ _ (omega arith) (same program env depth) fuel (omega arith)
+  same_goes_on form depth (program ∷ env ∷ []) fuel h = same_charge APPLY_COST c _ _ (omega arith) (same program env depth) fuel (omega arith)
   same_goes_on form depth (program ∷ env ∷ d ∷ more) fuel h = refl
 
   same_apply : (code : List ℕ) (form : Tree) (depth : ℕ) (values : List Tree) (fuel : Fuel) → fuel.cost < c → apply_values evaluate code form depth values fuel ≡ apply_values evaluate' code form depth values fuel

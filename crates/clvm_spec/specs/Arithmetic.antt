@@ -2,6 +2,7 @@
 -- shift are this project's own.
 use Rattle.std.specs.Prelude.{zero, suc, ◌/◌, ◌^◌, ℤ, pos, negsuc, ◌-ℤ◌, ◌*ℤ◌, nat_abs, Bool, true, false, nat_lt, nat_le, if◌then◌else◌, Option, Some, None}
 use Rattle.std.specs.Int.{int_shr}
+use Rattle.clvm_spec.specs.declared.limits.TheConstants.{MOST_SHIFT}
 
 -- from -2 ^ 127 to 2 ^ 127 - 1
 abbrev pub fits_128 : ℤ → Bool
@@ -33,9 +34,9 @@ remainder a b = a -ℤ (b *ℤ quotient a b)
 abbrev pub complement : ℤ → ℤ
 complement n = negsuc 0 -ℤ n
 
--- by at most 65,535 either way
+-- by no more than the limit, either way
 abbrev pub is_shift : ℤ → Bool
-is_shift by = nat_le (nat_abs by) 65535
+is_shift by = nat_le (nat_abs by) MOST_SHIFT
 
 -- times 2 to that power, rounded down
 abbrev pub shifted : ℤ → ℤ → ℤ

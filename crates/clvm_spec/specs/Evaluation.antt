@@ -4,12 +4,12 @@ use Rattle.std.specs.Prelude.{ℕ, zero, suc, ◌-◌, ◌==◌, Bool, false, �
 use Rattle.clvm_spec.specs.declared.fuel.Fuel.{Fuel}
 use Rattle.clvm_spec.specs.declared.fuel.Which.TheVariants.{Cost, Depth}
 use Rattle.clvm_spec.specs.declared.limits.TheConstants.{MOST_PAIRS, MOST_BYTES, MOST_DEPTH}
-use Rattle.clvm_spec.specs.declared.costs.TheConstants.{FORM_COST}
+use Rattle.clvm_spec.specs.declared.costs.TheConstants.{FORM_COST, QUOTE_COST, APPLY_COST}
 use Rattle.clvm_spec.specs.Tree.{Tree, Atom, Pair}
 use Rattle.clvm_spec.specs.ProperList.{elements}
 use Rattle.clvm_spec.specs.Path.{PathValue, Reached, Astray, path_value, path_cost}
 use Rattle.clvm_spec.specs.Outcomes.{NoStep, NotAList, WrongCount, NoOperator, Gives, Fails, TooWide, WithinFuel, Enough, Lacks, Outcome, Done, Failed, Spent, Wide}
-use Rattle.clvm_spec.specs.OperatorTable.{quote_code, quote_cost, apply_code, apply_cost, operator_outcome}
+use Rattle.clvm_spec.specs.OperatorTable.{quote_code, apply_code, operator_outcome}
 use Rattle.clvm_spec.specs.Operators.{of_two}
 use Rattle.clvm_spec.specs.Spending.{exceeds, fuel_less, paid}
 
@@ -45,7 +45,7 @@ Evaluator = Tree → Tree → ℕ → Fuel → Outcome
 
 -- `a`: once its two operands are evaluated, the first is the program and the second the environment, at the form's depth.
 abbrev pub goes_on : Evaluator → Tree → ℕ → List Tree → Fuel → Outcome
-goes_on evaluate form depth values left = of_two (Failed WrongCount form) values (λ program env. charge apply_cost left (evaluate program env depth))
+goes_on evaluate form depth values left = of_two (Failed WrongCount form) values (λ program env. charge APPLY_COST left (evaluate program env depth))
 
 -- A value takes its cost, pairs and bytes from what is left; a fault is the form's.
 abbrev pub in_form : Tree → Fuel → WithinFuel → Outcome
@@ -71,7 +71,7 @@ is_too_deep count depth limit = nat_lt 0 count && nat_le limit depth
 abbrev pub deeper : List Tree → ℕ → Fuel → (Fuel → Outcome) → Outcome
 deeper operands depth left go = if is_too_deep (length operands) depth left.depth then Spent Depth else go left
 
--- An operator form: its rest is a list ended by nil, it costs 1, and its operands are evaluated before the operator.
+-- An operator form: its rest is a list ended by nil, it has a cost, and its operands are evaluated before the operator.
 abbrev pub operator_form : Evaluator → List ℕ → Tree → Tree → ℕ → Option (List Tree) → Fuel → Outcome
 operator_form evaluate code form env depth None left = Failed NotAList form
 operator_form evaluate code form env depth (Some operands) left =
@@ -81,7 +81,7 @@ operator_form evaluate code form env depth (Some operands) left =
 -- A pair whose first is the code of `q` has its rest as its value.
 abbrev pub atom_form : Evaluator → List ℕ → Tree → Tree → ℕ → Fuel → Outcome
 atom_form evaluate code rest env depth left =
-    if is_byte quote_code code then charge quote_cost left (Done rest) else operator_form evaluate code (Pair (Atom code) rest) env depth (elements rest) left
+    if is_byte quote_code code then charge QUOTE_COST left (Done rest) else operator_form evaluate code (Pair (Atom code) rest) env depth (elements rest) left
 
 -- one step of evaluation: a path, a form with a pair as its head, or one with an atom
 abbrev pub evaluated_by : Evaluator → Evaluator

@@ -3,6 +3,7 @@
 use Rattle.std.specs.Prelude.{◌≡◌, ℕ, ◌<◌, ◌≤◌, ◌↔◌, false, ℤ, pos, ◌+ℤ◌, ◌*ℤ◌, ◌<ℤ◌, ◌≤ℤ◌, FitsSigned, List, [], ◌++◌, length, Some}
 use Rattle.std.specs.Int.{w128}
 use Rattle.std.specs.List.{AllByRecursion}
+use Rattle.clvm_spec.specs.declared.limits.TheConstants.{NUMBER_BYTES}
 use Rattle.clvm_spec.specs.Tree.{Tree}
 use Rattle.clvm_spec.specs.Spelling.{spelling, HasSpelling, Spells}
 use Rattle.clvm_spec.specs.Reading.{Flaw, Head, Flawed, head_at, Found, Faulty, tree_at_front, HasTree, front_read, tree_of}
@@ -51,9 +52,9 @@ ShortestHasNumber = (n : ℤ) → FitsSigned w128 n → number (shortest_atom n)
 
 -- An atom without a byte that says no more than the sign is the shortest of its number.
 abbrev pub ShortestIsItself : Type 0
-ShortestIsItself = (atom : List ℕ) → AreBytes atom → length atom ≤ 16 → has_sign_byte atom ≡ false → shortest_atom (number atom) ≡ atom
+ShortestIsItself = (atom : List ℕ) → AreBytes atom → length atom ≤ NUMBER_BYTES → has_sign_byte atom ≡ false → shortest_atom (number atom) ≡ atom
 
--- No atom of at most 16 bytes is shorter than the shortest of its number.
+-- No atom that a number of 128 bits may have is shorter than the shortest of its number.
 abbrev pub ShortestIsLeast : Type 0
 ShortestIsLeast = (atom : List ℕ) → AreBytes atom → length (shortest_atom (number atom)) ≤ length atom
 

@@ -16,6 +16,7 @@ pub mod Operators
 pub mod OperatorTable
 pub mod Spending
 pub mod Evaluation
+pub mod Currying
 pub mod Tokens
 pub mod Grammar
 pub mod Text
@@ -24,3 +25,4 @@ pub mod FuelLaws
 pub mod ColumnLaws
 pub mod TextLaws
 pub mod PathLaws
+pub mod CurryingLaws

@@ -3,6 +3,7 @@
 use Rattle.std.specs.Prelude.{ℕ, ◌-◌, ◌==◌, ◌&&◌, ◌||◌, ℤ, pos, negsuc, Bool, false, not, List, [], ◌∷◌, length, map, nat_lt, nat_le, if◌then◌else◌}
 use Rattle.std.specs.Int.{w128, to_be_bytes, cast_unsigned}
 use Rattle.std.specs.Int.Digits.{number_from_digits}
+use Rattle.clvm_spec.specs.declared.limits.TheConstants.{NUMBER_BYTES}
 
 -- the number that big-endian bytes write
 abbrev pub unsigned : List ℕ → ℕ
@@ -20,9 +21,9 @@ abbrev pub number : List ℕ → ℤ
 number [] = pos 0
 number (b ∷ bytes) = if is_natural b then pos (unsigned (b ∷ bytes)) else negsuc (unsigned (complemented (b ∷ bytes)))
 
--- whether an atom has no more than the 16 bytes of a number that operators take
+-- whether an atom has no more bytes than a number that operators take
 abbrev pub is_short : List ℕ → Bool
-is_short bytes = nat_le (length bytes) 16
+is_short bytes = nat_le (length bytes) NUMBER_BYTES
 
 -- whether the first byte says no more than the sign of what follows it
 abbrev pub has_sign_byte : List ℕ → Bool

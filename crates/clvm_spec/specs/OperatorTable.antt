@@ -3,6 +3,8 @@
 use Rattle.std.specs.Prelude.{ℕ, ◌==◌, List, [], ◌∷◌, Option, Some, None, find, bytes_eq, codes}
 use Rattle.clvm_spec.specs.declared.fuel.Fuel.{Fuel}
 use Rattle.clvm_spec.specs.declared.fuel.Which.{Which}
+use Rattle.clvm_spec.specs.declared.op_codes.TheConstants.{QUOTE, APPLY, CHOICE, NEW_PAIR, FIRST, REST, PAIR_FLAG, RAISE, EQUAL, BYTES_GREATER, HASH, PART, LENGTH, CONCAT, SUM, DIFFERENCE, PRODUCT, QUOTIENT, DIVISION, GREATER, SHIFT, BIT_SHIFT, AND, OR, XOR, COMPLEMENT, NIL_FLAG, ANY_FLAG, ALL_FLAG}
+use Rattle.clvm_spec.specs.declared.costs.TheConstants.{QUOTE_COST, APPLY_COST, CHOICE_COST, NEW_PAIR_COST, FIRST_COST, REST_COST, PAIR_FLAG_COST, RAISE_COST, EQUAL_COST, BYTES_GREATER_COST, HASH_COST, PART_COST, LENGTH_COST, CONCAT_COST, SUM_COST, DIFFERENCE_COST, PRODUCT_COST, QUOTIENT_COST, DIVISION_COST, GREATER_COST, SHIFT_COST, BIT_SHIFT_COST, AND_COST, OR_COST, XOR_COST, COMPLEMENT_COST, NIL_FLAG_COST, ANY_FLAG_COST, ALL_FLAG_COST}
 use Rattle.clvm_spec.specs.declared.operands.Operands.{Operands}
 use Rattle.clvm_spec.specs.declared.operands.Operands.TheVariants.{Any, Pairs, Atoms, Numbers, AtomAndNumbers}
 use Rattle.clvm_spec.specs.Tree.{Tree}
@@ -29,18 +31,12 @@ abbrev pub operator : (code : ℕ) (name : List ℕ) (least : ℕ) (most : Optio
 operator code name least most kind cost equation =
     record { code = code; name = name; least = least; most = most; kind = kind; cost = cost; applied = equation cost }
 
--- `q` and `a` are no operators on values: evaluation treats them, by these codes and at these costs.
+-- `q` and `a` are no operators on values: evaluation treats them.
 abbrev pub quote_code : ℕ
-quote_code = 1
-
-abbrev pub quote_cost : ℕ
-quote_cost = 20
+quote_code = QUOTE
 
 abbrev pub apply_code : ℕ
-apply_code = 2
-
-abbrev pub apply_cost : ℕ
-apply_cost = 90
+apply_code = APPLY
 
 -- Applied to values, they are none. Of their counts evaluation tells: what follows `q` isn't counted, and `a` has two.
 abbrev pub by_evaluation : ℕ → List Tree → Applied
@@ -48,37 +44,35 @@ by_evaluation cost operands = Fails NoOperator
 
 abbrev pub operators : List Operator
 operators =
-    operator quote_code (codes "q") 0 None Any quote_cost by_evaluation
-    ∷ operator apply_code (codes "a") 2 (Some 2) Any apply_cost by_evaluation
-    ∷ operator 3 (codes "i") 3 (Some 3) Any 33 choice
-    ∷ operator 4 (codes "c") 2 (Some 2) Any 50 new_pair
-    ∷ operator 5 (codes "f") 1 (Some 1) Pairs 30 first_of
-    ∷ operator 6 (codes "r") 1 (Some 1) Pairs 30 rest_of
-    ∷ operator 7 (codes "l") 1 (Some 1) Any 19 pair_flag
-    -- `x` gives no value, so this 0 is never charged
-    ∷ operator 8 (codes "x") 0 None Any 0 raised
-    ∷ operator 9 (codes "=") 2 (Some 2) Atoms 117 equal_flag
-    ∷ operator 10 (codes ">s") 2 (Some 2) Atoms 117 bytes_greater_flag
-    -- 87, and 10 for each byte of the hash
-    ∷ operator 11 (codes "sha256") 0 None Atoms 407 hash_of
-    ∷ operator 12 (codes "substr") 2 (Some 3) AtomAndNumbers 1 part_of
-    ∷ operator 13 (codes "strlen") 1 (Some 1) Atoms 173 length_of
-    ∷ operator 14 (codes "concat") 0 None Atoms 142 concat_of
-    ∷ operator 16 (codes "+") 0 None Numbers 99 sum_of
-    ∷ operator 17 (codes "-") 0 None Numbers 99 difference_of
-    ∷ operator 18 (codes "*") 0 None Numbers 92 product_of
-    ∷ operator 19 (codes "/") 2 (Some 2) Numbers 988 quotient_of
-    ∷ operator 20 (codes "divmod") 2 (Some 2) Numbers 1116 quotient_and_remainder
-    ∷ operator 21 (codes ">") 2 (Some 2) Numbers 498 greater_flag
-    ∷ operator 22 (codes "ash") 2 (Some 2) Numbers 596 shift_of_number
-    ∷ operator 23 (codes "lsh") 2 (Some 2) Numbers 277 shift_of_bits
-    ∷ operator 24 (codes "logand") 0 None Numbers 100 and_of
-    ∷ operator 25 (codes "logior") 0 None Numbers 100 or_of
-    ∷ operator 26 (codes "logxor") 0 None Numbers 100 xor_of
-    ∷ operator 27 (codes "lognot") 1 (Some 1) Numbers 331 complement_of
-    ∷ operator 32 (codes "not") 1 (Some 1) Any 200 nil_flag
-    ∷ operator 33 (codes "any") 0 None Any 200 any_flag
-    ∷ operator 34 (codes "all") 0 None Any 200 all_flag
+    operator QUOTE (codes "q") 0 None Any QUOTE_COST by_evaluation
+    ∷ operator APPLY (codes "a") 2 (Some 2) Any APPLY_COST by_evaluation
+    ∷ operator CHOICE (codes "i") 3 (Some 3) Any CHOICE_COST choice
+    ∷ operator NEW_PAIR (codes "c") 2 (Some 2) Any NEW_PAIR_COST new_pair
+    ∷ operator FIRST (codes "f") 1 (Some 1) Pairs FIRST_COST first_of
+    ∷ operator REST (codes "r") 1 (Some 1) Pairs REST_COST rest_of
+    ∷ operator PAIR_FLAG (codes "l") 1 (Some 1) Any PAIR_FLAG_COST pair_flag
+    ∷ operator RAISE (codes "x") 0 None Any RAISE_COST raised
+    ∷ operator EQUAL (codes "=") 2 (Some 2) Atoms EQUAL_COST equal_flag
+    ∷ operator BYTES_GREATER (codes ">s") 2 (Some 2) Atoms BYTES_GREATER_COST bytes_greater_flag
+    ∷ operator HASH (codes "sha256") 0 None Atoms HASH_COST hash_of
+    ∷ operator PART (codes "substr") 2 (Some 3) AtomAndNumbers PART_COST part_of
+    ∷ operator LENGTH (codes "strlen") 1 (Some 1) Atoms LENGTH_COST length_of
+    ∷ operator CONCAT (codes "concat") 0 None Atoms CONCAT_COST concat_of
+    ∷ operator SUM (codes "+") 0 None Numbers SUM_COST sum_of
+    ∷ operator DIFFERENCE (codes "-") 0 None Numbers DIFFERENCE_COST difference_of
+    ∷ operator PRODUCT (codes "*") 0 None Numbers PRODUCT_COST product_of
+    ∷ operator QUOTIENT (codes "/") 2 (Some 2) Numbers QUOTIENT_COST quotient_of
+    ∷ operator DIVISION (codes "divmod") 2 (Some 2) Numbers DIVISION_COST quotient_and_remainder
+    ∷ operator GREATER (codes ">") 2 (Some 2) Numbers GREATER_COST greater_flag
+    ∷ operator SHIFT (codes "ash") 2 (Some 2) Numbers SHIFT_COST shift_of_number
+    ∷ operator BIT_SHIFT (codes "lsh") 2 (Some 2) Numbers BIT_SHIFT_COST shift_of_bits
+    ∷ operator AND (codes "logand") 0 None Numbers AND_COST and_of
+    ∷ operator OR (codes "logior") 0 None Numbers OR_COST or_of
+    ∷ operator XOR (codes "logxor") 0 None Numbers XOR_COST xor_of
+    ∷ operator COMPLEMENT (codes "lognot") 1 (Some 1) Numbers COMPLEMENT_COST complement_of
+    ∷ operator NIL_FLAG (codes "not") 1 (Some 1) Any NIL_FLAG_COST nil_flag
+    ∷ operator ANY_FLAG (codes "any") 0 None Any ANY_FLAG_COST any_flag
+    ∷ operator ALL_FLAG (codes "all") 0 None Any ALL_FLAG_COST all_flag
     ∷ []
 
 -- an operator by its code, and by its name

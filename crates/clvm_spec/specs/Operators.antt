@@ -1,6 +1,6 @@
 -- Each operator but `q` and `a`: what it gives of its operands, at which cost, with which new pairs and bytes, and its
 -- faults in their order. The first argument is what the operator costs whatever its operands are: the table has it.
--- Source: CLVM reference; the costs, the counts of pairs and bytes, the 16 bytes of a number and the order of faults as
+-- Source: CLVM reference; the costs, the counts of pairs and bytes, the limit of a number and the order of faults as
 -- they stand here are this project's own.
 --
 -- The order of faults: the count of operands; from the first operand to the last its kind, and the width of a number;
@@ -13,6 +13,7 @@ use Rattle.std.specs.Ordering.{nat_cmp, is_gt}
 use Rattle.std.specs.Cmp.Lexicographic.{slice_cmp}
 use Rattle.std.specs.Int.{w128, int_bit_and, int_bit_or, int_bit_xor}
 use Rattle.sha2.specs.Sha256.{sha256}
+use Rattle.clvm_spec.specs.declared.costs.TheConstants.{RESULT_BYTE_COST, COMPARED_BYTE_COST, HASHED_ATOM_COST, HASHED_BYTE_COST, MEASURED_BYTE_COST, JOINED_ATOM_COST, JOINED_BYTE_COST, TERM_COST, TERM_BYTE_COST, FACTOR_COST, FACTOR_BYTE_COST, FACTOR_LENGTHS_DIVISOR, QUOTIENT_BYTE_COST, DIVISION_BYTE_COST, GREATER_BYTE_COST, SHIFT_BYTE_COST, BITS_COST, BITS_BYTE_COST, COMPLEMENT_BYTE_COST, TRUTH_COST, ATOM_OVERHEAD}
 use Rattle.clvm_spec.specs.Tree.{Tree, Atom, Pair, nil, list_tree}
 use Rattle.clvm_spec.specs.Numbers.{unsigned, number, shortest_atom, is_short}
 use Rattle.clvm_spec.specs.Arithmetic.{if_fits, is_zero, quotient, remainder, complement, is_shift, shifted}
@@ -59,7 +60,7 @@ abbrev pub atom_at : ℕ → Tree → (List ℕ → Applied) → Applied
 atom_at place (Atom bytes) go = go bytes
 atom_at place (Pair first rest) go = Fails (WrongOperand place)
 
--- where a number is needed: an atom of at most 16 bytes
+-- where a number is needed: an atom that is short enough
 abbrev pub if_short : List ℕ → (List ℕ → Applied) → Applied
 if_short bytes go = if is_short bytes then go bytes else TooWide
 
@@ -109,16 +110,16 @@ is_nil (Atom []) = true
 is_nil (Atom (b ∷ bytes)) = false
 is_nil (Pair first rest) = false
 
--- A new atom uses its length and 8 bytes more.
+-- A new atom uses its length and some bytes more.
 abbrev pub atom_bytes : List ℕ → ℕ
-atom_bytes bytes = length bytes + 8
+atom_bytes bytes = length bytes + ATOM_OVERHEAD
 
 abbrev pub new_atom : ℕ → List ℕ → Applied
 new_atom cost bytes = Gives (Atom bytes) cost 0 (atom_bytes bytes)
 
--- Each byte of a result costs 10.
+-- what the bytes of a result cost
 abbrev pub result_cost : ℕ → ℕ
-result_cost size = 10 * size
+result_cost size = RESULT_BYTE_COST * size
 
 abbrev pub written : ℕ → List ℕ → Applied
 written cost bytes = new_atom (cost + result_cost (length bytes)) bytes
@@ -175,7 +176,7 @@ raised cost operands = Fails (Raised (list_tree operands))
 
 -- 1 where the bytes of two atoms compare so, else nil
 abbrev pub compared : (List ℕ → List ℕ → Bool) → ℕ → List Tree → Applied
-compared holds cost operands = two_atoms operands (λ a b. free (flag (holds a b)) (cost + (length a + length b)))
+compared holds cost operands = two_atoms operands (λ a b. free (flag (holds a b)) (cost + COMPARED_BYTE_COST * (length a + length b)))
 
 -- =: where they are equal
 abbrev pub equal_flag : ℕ → List Tree → Applied
@@ -190,7 +191,7 @@ joined_hash atoms = sha256 (concat atoms)
 
 -- sha256: the hash of their concatenation
 abbrev pub hash_of : ℕ → List Tree → Applied
-hash_of cost operands = atoms operands (λ atoms. new_atom (cost + 134 * length atoms + 2 * lengths atoms) (joined_hash atoms))
+hash_of cost operands = atoms operands (λ atoms. new_atom (cost + HASHED_ATOM_COST * length atoms + HASHED_BYTE_COST * lengths atoms) (joined_hash atoms))
 
 -- 0 <= start <= end <= length
 abbrev pub is_part : ℤ → ℤ → ℕ → Bool
@@ -209,16 +210,16 @@ abbrev pub part_of : ℕ → List Tree → Applied
 part_of cost operands = two_or_three operands (λ a start end. atom_at 0 a (λ a. number_at 1 start (λ start. number_or (pos (length a)) 2 end (λ end.
     part_or_fault cost (part a (number start) end)))))
 
--- strlen: the length, at 1 more for each byte
+-- strlen: the length, each byte of which costs more
 abbrev pub new_length : (cost size : ℕ) → Applied
-new_length cost size = new_number (cost + size) (pos size)
+new_length cost size = new_number (cost + MEASURED_BYTE_COST * size) (pos size)
 
 abbrev pub length_of : ℕ → List Tree → Applied
 length_of cost operands = one operands (λ a. atom_at 0 a (λ a. new_length cost (length a)))
 
 -- concat
 abbrev pub concat_of : ℕ → List Tree → Applied
-concat_of cost operands = atoms operands (λ atoms. written (cost + 135 * length atoms + 3 * lengths atoms) (concat atoms))
+concat_of cost operands = atoms operands (λ atoms. written (cost + JOINED_ATOM_COST * length atoms + JOINED_BYTE_COST * lengths atoms) (concat atoms))
 
 -- ---- numbers
 
@@ -229,7 +230,7 @@ from_left step so_far (n ∷ ns) go = or_wide (if_fits (step so_far n)) (λ next
 
 -- what the operands of a sum or difference cost
 abbrev pub terms_cost : List (List ℕ) → ℕ
-terms_cost atoms = 320 * length atoms + 3 * lengths atoms
+terms_cost atoms = TERM_COST * length atoms + TERM_BYTE_COST * lengths atoms
 
 -- +: the sum, 0 for none
 abbrev pub sum_of : ℕ → List Tree → Applied
@@ -240,10 +241,10 @@ abbrev pub difference_of : ℕ → List Tree → Applied
 difference_of cost operands = numbers operands (λ atoms. let first = get_or atoms 0 [] in
     from_left ◌-ℤ◌ (number first) (map number (drop 1 atoms)) (new_number (cost + terms_cost atoms)))
 
--- what an operand of that length costs beside a running product: 885, 6 per byte of both, and the product of the two
--- lengths / 128
+-- what an operand of that length costs beside a running product: its own, the bytes of both, and the product of the two
+-- lengths, divided
 abbrev pub factor_cost : (size other : ℕ) → ℕ
-factor_cost size other = 885 + 6 * (size + other) + size * other / 128
+factor_cost size other = FACTOR_COST + FACTOR_BYTE_COST * (size + other) + size * other / FACTOR_LENGTHS_DIVISOR
 
 -- What the operands after the first cost. The running product's length is that of its shortest form; at first it's the
 -- first operand's.
@@ -261,22 +262,22 @@ unless_zero divisor applied = if is_zero divisor then Fails ZeroDivisor else app
 
 -- /: the quotient rounded down
 abbrev pub quotient_of : ℕ → List Tree → Applied
-quotient_of cost operands = two_numbers operands (λ a b. unless_zero (number b) (new_number (cost + 4 * (length a + length b)) (quotient (number a) (number b))))
+quotient_of cost operands = two_numbers operands (λ a b. unless_zero (number b) (new_number (cost + QUOTIENT_BYTE_COST * (length a + length b)) (quotient (number a) (number b))))
 
 -- divmod: the pair of the quotient rounded down and the remainder
 abbrev pub quotient_and_remainder : ℕ → List Tree → Applied
-quotient_and_remainder cost operands = two_numbers operands (λ a b. unless_zero (number b) (new_pair_of_numbers (cost + 6 * (length a + length b)) (quotient (number a) (number b)) (remainder (number a) (number b))))
+quotient_and_remainder cost operands = two_numbers operands (λ a b. unless_zero (number b) (new_pair_of_numbers (cost + DIVISION_BYTE_COST * (length a + length b)) (quotient (number a) (number b)) (remainder (number a) (number b))))
 
 abbrev pub is_greater : (a b : List ℕ) → Bool
 is_greater a b = int_lt (number b) (number a)
 
 -- >: 1 where the first is larger, else nil
 abbrev pub greater_flag : ℕ → List Tree → Applied
-greater_flag cost operands = two_numbers operands (λ a b. free (flag (is_greater a b)) (cost + 2 * (length a + length b)))
+greater_flag cost operands = two_numbers operands (λ a b. free (flag (is_greater a b)) (cost + GREATER_BYTE_COST * (length a + length b)))
 
 -- a shifted number, of a value of that length
 abbrev pub new_shifted : (cost size : ℕ) → ℤ → Applied
-new_shifted cost size n = new_number (cost + 3 * (size + length (shortest_atom n))) n
+new_shifted cost size n = new_number (cost + SHIFT_BYTE_COST * (size + length (shortest_atom n))) n
 
 -- the value, as it is read, times 2 ^ shift, rounded down
 abbrev pub shift_of : (List ℕ → ℤ) → ℕ → List Tree → Applied
@@ -308,7 +309,7 @@ abbrev pub joined : Bitwise → List ℤ → ℤ
 joined bitwise numbers = fold bitwise.step bitwise.none numbers
 
 abbrev pub bits_of : Bitwise → ℕ → List Tree → Applied
-bits_of bitwise cost operands = numbers operands (λ atoms. new_number (cost + 264 * length atoms + 3 * lengths atoms) (joined bitwise (map number atoms)))
+bits_of bitwise cost operands = numbers operands (λ atoms. new_number (cost + BITS_COST * length atoms + BITS_BYTE_COST * lengths atoms) (joined bitwise (map number atoms)))
 
 -- logand: -1 for none
 abbrev pub and_of : ℕ → List Tree → Applied
@@ -324,7 +325,7 @@ xor_of cost operands = bits_of exclusion cost operands
 
 -- lognot: -1 less the number
 abbrev pub complement_of : ℕ → List Tree → Applied
-complement_of cost operands = one operands (λ a. number_at 0 a (λ a. new_number (cost + 3 * length a) (complement (number a))))
+complement_of cost operands = one operands (λ a. number_at 0 a (λ a. new_number (cost + COMPLEMENT_BYTE_COST * length a) (complement (number a))))
 
 -- ---- truth
 
@@ -343,7 +344,7 @@ are_all_true trees = list_all is_true trees
 
 -- 1 where this holds of the operands, else nil
 abbrev pub truth_flag : (List Tree → Bool) → ℕ → List Tree → Applied
-truth_flag holds cost operands = free (flag (holds operands)) (cost + 300 * length operands)
+truth_flag holds cost operands = free (flag (holds operands)) (cost + TRUTH_COST * length operands)
 
 -- any: one isn't nil
 abbrev pub any_flag : ℕ → List Tree → Applied

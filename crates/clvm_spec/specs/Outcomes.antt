@@ -18,7 +18,7 @@ pub data Why : Type 0 where
   -- The program itself fails, with the list of its operands.
   Raised : Tree → Why
   ZeroDivisor : Why
-  -- A shift by more than 65,535 either way.
+  -- A shift by more than the limit, either way.
   WrongShift : Why
   -- There is no operator of that code, or a pair stands where the operator does.
   NoOperator : Why

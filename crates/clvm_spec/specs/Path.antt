@@ -1,5 +1,6 @@
 -- An atom as a path into an environment. Source: CLVM reference; the costs as they stand here are this project's own.
 use Rattle.std.specs.Prelude.{ℕ, zero, suc, ◌+◌, ◌*◌, ◌/◌, ◌%◌, ◌==◌, List, [], ◌∷◌, length, nat_le, if◌then◌else◌}
+use Rattle.clvm_spec.specs.declared.costs.TheConstants.{PATH_COST, PATH_ZERO_COST, PATH_STEP_COST}
 use Rattle.clvm_spec.specs.Tree.{Tree, Atom, Pair, nil}
 use Rattle.clvm_spec.specs.Numbers.{unsigned}
 
@@ -32,4 +33,4 @@ leading_zeros [] = 0
 leading_zeros (b ∷ bytes) = if b == 0 then suc (leading_zeros bytes) else 0
 
 abbrev pub path_cost : List ℕ → ℕ → ℕ
-path_cost path steps = 44 + 4 * leading_zeros path + 4 * steps
+path_cost path steps = PATH_COST + PATH_ZERO_COST * leading_zeros path + PATH_STEP_COST * steps

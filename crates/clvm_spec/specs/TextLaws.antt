@@ -34,7 +34,7 @@ abbrev pub HasBytes : Tree → Type 0
 HasBytes (Atom bytes) = AreBytes bytes
 HasBytes (Pair first rest) = HasBytes first × HasBytes rest
 
--- What is printed of a tree is scanned as that tree, where it nests at most 1,024 parentheses.
+-- What is printed of a tree is scanned as that tree, where it nests no more parentheses than may be open.
 abbrev pub PrintedIsScanned : Type 0
 PrintedIsScanned = (tree : Tree) → HasBytes tree → nests_within most_open (printed tree) ≡ true → scanned (printed tree) ≡ Scans tree
 

@@ -4,6 +4,8 @@ ghost use Rattle.std.specs.Prelude.{◌≡◌, pos, ◌-ℤ◌, false, if◌then
 ghost use Rattle.clvm_spec.specs.Arithmetic.{if_fits, is_zero, quotient, is_shift};
 ghost use Rattle.clvm_spec.specs.Path.{leading_zeros};
 
+use crate::limits::MOST_SHIFT;
+
 /// Whether a number is 0.
 pub fn is_zero(number: i128) -> bool
     ensures { result ≡ is_zero number }
@@ -37,14 +39,14 @@ fn less_one_unless_whole(quotient: i128, rest: i128) -> Option<i128>
     }
 }
 
-/// Whether a number says by how much to shift: from -65,535 to 65,535.
+/// Whether a number says by how much to shift: no more than `MOST_SHIFT` either way.
 pub fn is_shift_amount(by: i128) -> bool
     ensures { result ≡ is_shift by }
 {
-    -65_535 <= by && by <= 65_535
+    -(MOST_SHIFT as i128) <= by && by <= MOST_SHIFT as i128
 }
 
-/// How many zero bytes a path begins with; each costs 4.
+/// How many zero bytes a path begins with.
 pub fn leading_zero_bytes(path: &[u8]) -> usize
     ensures { result ≡ leading_zeros path.now }
 {

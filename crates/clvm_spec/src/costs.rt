@@ -38,8 +38,8 @@ pub const EQUAL_COST: u32 = 117;
 
 pub const BYTES_GREATER_COST: u32 = 117;
 
-/// A hash has 32 bytes, each of which costs as a byte of a result.
-pub const HASH_COST: u32 = 87 + 10 * 32;
+/// Each of the 32 bytes of a hash costs as a byte of a result.
+pub const HASH_COST: u32 = 87 + RESULT_BYTE_COST as u32 * 32;
 
 pub const PART_COST: u32 = 1;
 
@@ -71,11 +71,11 @@ pub const XOR_COST: u32 = 100;
 
 pub const COMPLEMENT_COST: u32 = 331;
 
-pub const NOT_COST: u32 = 200;
+pub const NIL_FLAG_COST: u32 = 200;
 
-pub const ANY_COST: u32 = 200;
+pub const ANY_FLAG_COST: u32 = 200;
 
-pub const ALL_COST: u32 = 200;
+pub const ALL_FLAG_COST: u32 = 200;
 
 // ---- what they cost besides
 

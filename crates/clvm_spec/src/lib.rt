@@ -1,5 +1,5 @@
 //! The definitions of the machine: trees, their spelling, their hash and the numbers of atoms; paths,
-//! operators, the costed evaluation, and the text form.
+//! operators, the costed evaluation, currying, and the text form.
 #![tactic(auto)]
 
 pub mod arithmetic;
@@ -7,6 +7,7 @@ pub mod arithmetic_laws;
 pub mod codec_laws;
 pub mod column_laws;
 pub mod costs;
+pub mod currying_laws;
 pub mod fuel;
 pub mod fuel_laws;
 pub mod limits;

@@ -1,4 +1,5 @@
 ghost use Rattle.std.specs.Prelude.{◌≡◌, ℕ, ◌≤◌, length, pos, negsuc};
+ghost use Rattle.clvm_spec.specs.declared.limits.TheConstants.{NUMBER_BYTES};
 ghost use Rattle.clvm_spec.specs.Numbers.{has_sign_byte, without_sign_bytes, shortest_atom};
 
 /// The shortest two's complement form of the same number: the bytes without the leading ones that repeat the sign.
@@ -26,7 +27,7 @@ fn has_sign_byte(bytes: &[u8]) -> bool
 /// How many bytes the shortest atom of a number has.
 pub fn number_length(number: i128) -> usize
     ensures length { result ≡ length (shortest_atom number) }
-    ensures few { result ≤ 16 }
+    ensures few { result ≤ NUMBER_BYTES }
 {
     if number == 0 {
         return 0;

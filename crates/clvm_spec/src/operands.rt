@@ -6,7 +6,7 @@ pub enum Operands {
     Any,
     Pairs,
     Atoms,
-    /// Atoms of at most 16 bytes.
+    /// Atoms of at most `NUMBER_BYTES`.
     Numbers,
     /// An atom as the first, numbers as the others.
     AtomAndNumbers,

@@ -20,7 +20,7 @@ pub enum ScanKind {
     Text,
     /// A byte that no token begins with.
     Byte,
-    /// More than 1,024 lists in one another.
+    /// More than `MOST_OPEN` lists in one another.
     Deep,
 }
 

@@ -12,8 +12,8 @@ pub fn list_is_its_step()
     ensures { ListIsItsStep }
 {}
 
-/// What is printed of a tree is scanned as that tree where its text nests at most 1,024 parentheses, and is too deep
-/// where it nests more.
+/// What is printed of a tree is scanned as that tree where its text nests at most `MOST_OPEN` parentheses, and is too
+/// deep where it nests more.
 pub fn printed_text_is_scanned()
     ensures scanned { PrintedIsScanned }
     ensures too_deep { PrintedTooDeep }

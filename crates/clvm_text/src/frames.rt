@@ -14,6 +14,7 @@ ghost use Rattle.clvm_text.specs.Frames.{resumed, AreBegun, IsMode, AreWithin, I
 
 use crate::TextFault;
 use case_table::code_of;
+use clvm_spec::limits::MOST_OPEN;
 use clvm_tree::{Node, OutOfMemory, Trees};
 use std::alloc::Global;
 use text_tokens::{Literal, ScanKind, Token};
@@ -232,7 +233,7 @@ fn open(frames: &mut Vec<Frame>, mode: Mode, place: u32) -> Result<Step, TextFau
 {
     match depth_in(mode) {
         Some(depth) => {
-            if depth >= 1024 {
+            if depth as usize >= MOST_OPEN {
                 return Err(fault(frames.as_slice(), mode, ScanKind::Deep, place));
             }
             frames.push(list_frame(mode))?;

@@ -1,6 +1,7 @@
 //! Scanning: the one form of a text, or its first fault.
 
 ghost use Rattle.std.specs.Prelude.{◌≡◌, ◌+◌, ◌*◌, ◌<◌, ◌≤◌, ◌^◌, length, IfOk, IfErr, OnOk};
+ghost use Rattle.clvm_spec.specs.declared.limits.TheConstants.{MOST_SPELLED};
 ghost use Rattle.clvm_spec.specs.Places.{place_of};
 ghost use Rattle.clvm_spec.specs.Text.{form_of, Scans, scanned};
 ghost use Rattle.clvm_tree.specs.Nodes.{tree_at, IsKnown, Grows};
@@ -16,7 +17,7 @@ use text_tokens::{Front, ScanKind, first_token};
 // The place of the end of a text.
 fn place_of(text: &[u8], end: &[u8]) -> u32
     requires within { length end.now ≤ length text.now }
-    requires short { length text.now ≤ 2 ^ 26 }
+    requires short { length text.now ≤ MOST_SPELLED }
     ensures { result ≡ place_of text.now end.now }
 {
     (text.len() - end.len()) as u32
@@ -28,7 +29,7 @@ fn first_form<'a>(
     trees: &mut Trees,
     text: &'a [u8],
 ) -> Result<(Form, &'a [u8]), TextFault>
-    requires short { length text.now ≤ 2 ^ 26 }
+    requires short { length text.now ≤ MOST_SPELLED }
     requires fits { length trees.old + 2 * length text.now + 1 < 2 ^ 31 }
     ensures grows { Grows trees.old trees.new }
     ensures few { OnOk result (length trees.new ≤ length trees.old + 2 * length text.now) }
@@ -62,7 +63,7 @@ fn first_form<'a>(
 /// Earlier nodes stand, whatever the answer; after a fault there may be further nodes. Of all faults the first from the
 /// front is told, with its place.
 pub fn scan(alloc: Global, trees: &mut Trees, text: &str) -> Result<Node, TextFault>
-    requires short { length text.now ≤ 2 ^ 26 }
+    requires short { length text.now ≤ MOST_SPELLED }
     requires fits { length trees.old + 2 * length text.now + 1 < 2 ^ 31 }
     ensures grows { Grows trees.old trees.new }
     ensures few { OnOk result (length trees.new ≤ length trees.old + 2 * length text.now) }

@@ -1,13 +1,16 @@
 -- The trees of an arena's entries, one entry after another.
-use Rattle.std.proofs.Common.{◌≡◌, ℕ, zero, suc, ◌+◌, ◌-◌, ◌^◌, ◌<◌, ◌≤◌, List, [], ◌∷◌, ◌++◌, length, get_or, take, drop, refl, sym, ◌∙◌, ap, subst, arith}
+use Rattle.std.proofs.Common.{◌≡◌, ℕ, zero, suc, ◌+◌, ◌-◌, ◌^◌, ◌<◌, ◌≤◌, List, [], ◌∷◌, ◌++◌, length, get_or, take, drop, Some, None, refl, sym, ◌∙◌, ap, subst, ⊎_elim, arith}
+use Rattle.std.proofs.lemmas.Bool.{cases_lt}
 use Rattle.std.specs.Prelude.{slice_range}
-use Rattle.std.proofs.lemmas.List.{length-append, get_or_at, take-append-le, take_all, drop-append-le, drop_at, length-drop, get_or_default}
+use Rattle.std.proofs.lemmas.List.{length-append, get_or_at, take-append-le, take_all, drop-append-le, drop_at, length-drop, length-take-le, get_or_default}
 use Rattle.clvm_spec.specs.Tree.{Tree, Atom, Pair, nil}
-use Rattle.clvm_tree.specs.Nodes.{tree_at, Grows, Adds, HasParts}
+use Rattle.clvm_tree.specs.Nodes.{first_trees, tree_at, Grows, Adds, HasParts, single_byte}
 use Rattle.clvm_tree.specs.Arena.{entry_tree, built, trees_of, IsSoundAt, AreSound, IsArena}
 use Rattle.clvm_tree.specs.declared.Node.{Node}
-use Rattle.clvm_tree.specs.declared.arena.Entry.{Entry}
-use Rattle.clvm_tree.specs.declared.arena.Entry.TheVariants.{Bytes, Two}
+use Rattle.clvm_tree.specs.declared.entry.Entry.{Entry}
+use Rattle.clvm_tree.specs.declared.entry.Entry.TheVariants.{Bytes, Two}
+use Rattle.clvm_tree.specs.declared.arena.TheConstants.{FIRST_COUNT}
+use Rattle.clvm_tree.proofs.FirstLaws.{length-first_trees, nil_first, byte_first}
 use Rattle.clvm_tree.proofs.NodeLaws.{grows_same, grows_one, grows_on, stays}
 
 pub length-built : (bytes : List ℕ) (trees : List Tree) (es : List Entry) → length (built bytes trees es) ≡ length trees + length es
@@ -33,7 +36,7 @@ range-append xs ys i j h l =
     ∙ take-append-le (j - i) (drop i xs) ys (omega (arith, length-drop i xs))
 
 entry_tree-bytes : (bytes more : List ℕ) (trees : List Tree) (e : Entry) (place : ℕ) → IsSoundAt place (length bytes) e → entry_tree (bytes ++ more) trees e ≡ entry_tree bytes trees e
-entry_tree-bytes bytes more trees (Bytes start end) place h = ap Atom (range-append bytes more start end h.0 h.1)
+entry_tree-bytes bytes more trees (Bytes start end) place h = ap Atom (range-append bytes more start end (omega (arith, h.0)) h.1)
 entry_tree-bytes bytes more trees (Two first rest) place h = refl
 
 pub built-bytes : (bytes more : List ℕ) (trees : List Tree) (es : List Entry) (place : ℕ) → AreSound place (length bytes) es → built (bytes ++ more) trees es ≡ built bytes trees es
@@ -87,33 +90,44 @@ tree_at-built bytes trees (e ∷ es) (suc k) size d h lt =
     let at : length trees + suc k ≡ length (trees ++ t ∷ []) + k = omega (arith, long) in
     ap (tree_at all) at ∙ tree_at-built bytes (trees ++ t ∷ []) es k size d (subst (λ p. AreSound p size es) long h.1) (omega arith)
 
-pub length-trees_of : (bytes : List ℕ) (es : List Entry) → length (trees_of bytes es) ≡ length es + 2
-length-trees_of bytes es = omega (arith, length-built bytes (nil ∷ Atom (1 ∷ []) ∷ []) es)
+pub length-trees_of : (bytes : List ℕ) (es : List Entry) → length (trees_of bytes es) ≡ length es + FIRST_COUNT
+length-trees_of bytes es = omega (arith, length-built bytes first_trees es, length-first_trees)
 
--- Nil and 01 stand at the places 0 and 1.
-pub first_two : (bytes : List ℕ) (es : List Entry) (trees : List Tree) → trees_of bytes es ≡ trees → (1 < length trees) × (tree_at trees 0 ≡ nil) × (tree_at trees 1 ≡ Atom (1 ∷ []))
-first_two bytes es trees is =
-    let start = nil ∷ Atom (1 ∷ []) ∷ [] in
-    let grows = built_grows bytes start es in
-    let P : List Tree → Type 0 = λ ts. (1 < length ts) × (tree_at ts 0 ≡ nil) × (tree_at ts 1 ≡ Atom (1 ∷ [])) in
-    subst P is (omega (arith, length-trees_of bytes es), stays start (trees_of bytes es) 0 grows (omega arith), stays start (trees_of bytes es) 1 grows (omega arith))
+-- the entries' places begin behind the first trees
+behind_first : (size : ℕ) (es : List Entry) → AreSound FIRST_COUNT size es → AreSound (length first_trees) size es
+behind_first size es sound = subst (λ place. AreSound place size es) (sym length-first_trees) sound
+
+-- the first trees stand
+first_stands : (bytes : List ℕ) (es : List Entry) (trees : List Tree) (node : ℕ) → trees_of bytes es ≡ trees → node < FIRST_COUNT → tree_at trees node ≡ tree_at first_trees node
+first_stands bytes es trees node is low =
+    ap (λ ts. tree_at ts node) (sym is) ∙ stays first_trees (trees_of bytes es) node (built_grows bytes first_trees es) (omega (arith, low, length-first_trees))
+
+pub enough_trees : (bytes : List ℕ) (es : List Entry) (trees : List Tree) → trees_of bytes es ≡ trees → FIRST_COUNT ≤ length trees
+enough_trees bytes es trees is = omega (arith, length-trees_of bytes es, ap length is)
+
+pub nil_stands : (bytes : List ℕ) (es : List Entry) (trees : List Tree) → trees_of bytes es ≡ trees → tree_at trees 0 ≡ nil
+nil_stands bytes es trees is = first_stands bytes es trees 0 is (omega arith) ∙ nil_first
+
+pub byte_stands : (bytes : List ℕ) (es : List Entry) (trees : List Tree) (byte : ℕ) → trees_of bytes es ≡ trees → byte < 256 → tree_at trees (byte + 1) ≡ Atom (byte ∷ [])
+byte_stands bytes es trees byte is low = first_stands bytes es trees (byte + 1) is (omega (arith, low)) ∙ byte_first byte low
 
 -- what the node of an entry stands for
-pub entry_facts : (es : List Entry) (bytes : List ℕ) (trees : List Tree) (place : ℕ) (e : Entry) → IsArena es bytes → trees_of bytes es ≡ trees → 2 ≤ place → place < length trees → e ≡ get_or es (place - 2) e → IsSoundAt place (length bytes) e × (tree_at trees place ≡ entry_tree bytes trees e)
+pub entry_facts : (es : List Entry) (bytes : List ℕ) (trees : List Tree) (place : ℕ) (e : Entry) → IsArena es bytes → trees_of bytes es ≡ trees → FIRST_COUNT ≤ place → place < length trees → e ≡ get_or es (place - FIRST_COUNT) e → IsSoundAt place (length bytes) e × (tree_at trees place ≡ entry_tree bytes trees e)
 entry_facts es bytes trees place e arena is low high read =
-    let k = place - 2 in
+    let k = place - FIRST_COUNT in
     let within : k < length es = omega (arith, length-trees_of bytes es, ap length is) in
-    let at : 2 + k ≡ place = omega arith in
-    let sound : IsSoundAt place (length bytes) e = subst (λ p. IsSoundAt p (length bytes) e) at (subst (λ d. IsSoundAt (2 + k) (length bytes) d) (sym read) (sound_at 2 (length bytes) es k e arena.sound within)) in
-    let whole = tree_at-built bytes (nil ∷ Atom (1 ∷ []) ∷ []) es k (length bytes) e arena.sound within in
+    let at : FIRST_COUNT + k ≡ place = omega arith in
+    let sound : IsSoundAt place (length bytes) e = subst (λ p. IsSoundAt p (length bytes) e) at (subst (λ d. IsSoundAt (FIRST_COUNT + k) (length bytes) d) (sym read) (sound_at FIRST_COUNT (length bytes) es k e arena.sound within)) in
+    let start : length first_trees + k ≡ FIRST_COUNT + k = ap (λ n. n + k) length-first_trees in
+    let whole = ap (tree_at (trees_of bytes es)) (sym start) ∙ tree_at-built bytes first_trees es k (length bytes) e (behind_first (length bytes) es arena.sound) within in
     (sound, ap (λ ts. tree_at ts place) (sym is) ∙ ap (tree_at (trees_of bytes es)) (sym at) ∙ whole ∙ ap (entry_tree bytes (trees_of bytes es)) (sym read) ∙ ap (λ ts. entry_tree bytes ts e) is)
 
 -- one more entry
 pub adds_entry : (es fs : List Entry) (bytes more : List ℕ) (e : Entry) (trees : List Tree) → IsArena es bytes → trees_of bytes es ≡ trees → fs ≡ es ++ e ∷ [] → trees_of (bytes ++ more) fs ≡ trees ++ entry_tree (bytes ++ more) trees e ∷ []
 adds_entry es fs bytes more e trees arena is eq =
-    let start = nil ∷ Atom (1 ∷ []) ∷ [] in
+    let start = first_trees in
     ap (trees_of (bytes ++ more)) eq ∙ built-push (bytes ++ more) start es e
-    ∙ ap (λ ts. ts ++ entry_tree (bytes ++ more) ts e ∷ []) (built-bytes bytes more start es 2 arena.sound ∙ is)
+    ∙ ap (λ ts. ts ++ entry_tree (bytes ++ more) ts e ∷ []) (built-bytes bytes more start es FIRST_COUNT arena.sound ∙ is)
 
 pub adds_node : (old new : List Tree) (node : ℕ) (tree : Tree) → new ≡ old ++ tree ∷ [] → node ≡ length old → Adds old new node tree
 adds_node old new node tree is at = record {
@@ -126,16 +140,16 @@ adds_node old new node tree is at = record {
 pub same_node : (trees : List Tree) (node : ℕ) (tree : Tree) → node < length trees → tree_at trees node ≡ tree → Adds trees trees node tree
 same_node trees node tree known stands = record { grows = grows_same trees; few = omega arith; known = known; stands = stands }
 
-pub arena_with : (es fs : List Entry) (bytes more all : List ℕ) (e : Entry) → IsArena es bytes → fs ≡ es ++ e ∷ [] → all ≡ bytes ++ more → IsSoundAt (2 + length es) (length all) e → length es + 3 < 2 ^ 31 → length all < 2 ^ 32 → IsArena fs all
+pub arena_with : (es fs : List Entry) (bytes more all : List ℕ) (e : Entry) → IsArena es bytes → fs ≡ es ++ e ∷ [] → all ≡ bytes ++ more → IsSoundAt (FIRST_COUNT + length es) (length all) e → length es + FIRST_COUNT + 1 < 2 ^ 31 → length all < 2 ^ 32 → IsArena fs all
 arena_with es fs bytes more all e arena eq long sound few short = record {
-  sound = subst (AreSound 2 (length all)) (sym eq) (AreSound-push 2 (length all) es e (all_sound_more 2 (length bytes) (length all) es (omega (arith, ap length long, length-append bytes more)) arena.sound) sound);
+  sound = subst (AreSound FIRST_COUNT (length all)) (sym eq) (AreSound-push FIRST_COUNT (length all) es e (all_sound_more FIRST_COUNT (length bytes) (length all) es (omega (arith, ap length long, length-append bytes more)) arena.sound) sound);
   few = omega (arith, ap length eq, length-append es (e ∷ []));
   short = short;
 }
 
 pub arena_longer : (es : List Entry) (bytes more all : List ℕ) → IsArena es bytes → all ≡ bytes ++ more → length all < 2 ^ 32 → IsArena es all
 arena_longer es bytes more all arena long short = record {
-  sound = all_sound_more 2 (length bytes) (length all) es (omega (arith, ap length long, length-append bytes more)) arena.sound;
+  sound = all_sound_more FIRST_COUNT (length bytes) (length all) es (omega (arith, ap length long, length-append bytes more)) arena.sound;
   few = arena.few;
   short = short;
 }
@@ -160,10 +174,53 @@ adds_atom es fs bytes more all start end trees arena is long s e eq =
 -- further bytes alone change no tree
 pub same_trees : (es fs : List Entry) (bytes more all : List ℕ) (trees : List Tree) → IsArena es bytes → trees_of bytes es ≡ trees → all ≡ bytes ++ more → fs ≡ es → trees_of all fs ≡ trees
 same_trees es fs bytes more all trees arena is long eq =
-    ap (λ b. trees_of b fs) long ∙ ap (trees_of (bytes ++ more)) eq ∙ built-bytes bytes more (nil ∷ Atom (1 ∷ []) ∷ []) es 2 arena.sound ∙ is
+    ap (λ b. trees_of b fs) long ∙ ap (trees_of (bytes ++ more)) eq ∙ built-bytes bytes more first_trees es FIRST_COUNT arena.sound ∙ is
 
 -- the same of an entry that was read with a default
-pub entry_is : (es : List Entry) (bytes : List ℕ) (place : ℕ) (d e : Entry) → IsArena es bytes → 2 ≤ place → place < length es + 2 → get_or es (place - 2) d ≡ e → IsSoundAt place (length bytes) e × (tree_at (trees_of bytes es) place ≡ entry_tree bytes (trees_of bytes es) e)
+pub entry_is : (es : List Entry) (bytes : List ℕ) (place : ℕ) (d e : Entry) → IsArena es bytes → FIRST_COUNT ≤ place → place < length es + FIRST_COUNT → get_or es (place - FIRST_COUNT) d ≡ e → IsSoundAt place (length bytes) e × (tree_at (trees_of bytes es) place ≡ entry_tree bytes (trees_of bytes es) e)
 entry_is es bytes place d e arena low high read =
-    let within : place - 2 < length es = omega arith in
-    entry_facts es bytes (trees_of bytes es) place e arena refl low (omega (arith, length-trees_of bytes es)) (sym read ∙ get_or_default es (place - 2) d e within)
+    let within : place - FIRST_COUNT < length es = omega arith in
+    entry_facts es bytes (trees_of bytes es) place e arena refl low (omega (arith, length-trees_of bytes es)) (sym read ∙ get_or_default es (place - FIRST_COUNT) d e within)
+
+long_single : (bytes : List ℕ) → 2 ≤ length bytes → single_byte (Atom bytes) ≡ None
+long_single [] long = absurd (omega arith)
+long_single (b ∷ []) long = absurd (omega arith)
+long_single (b ∷ c ∷ more) long = refl
+
+long_range : (xs : List ℕ) (i j : ℕ) → i + 2 ≤ j → j ≤ length xs → 2 ≤ length (slice_range xs i j)
+long_range xs i j long within = omega (arith, length-take-le (j - i) (drop i xs) (omega (arith, length-drop i xs)))
+
+-- An entry is no atom of one byte, nor of none.
+entry_single : (bytes : List ℕ) (trees : List Tree) (place : ℕ) (e : Entry) → IsSoundAt place (length bytes) e → single_byte (entry_tree bytes trees e) ≡ None
+entry_single bytes trees place (Bytes start end) sound = long_single (slice_range bytes start end) (long_range bytes start end sound.0 sound.1)
+entry_single bytes trees place (Two first rest) sound = refl
+
+entry_not_nil : (bytes : List ℕ) (trees : List Tree) (place : ℕ) (e : Entry) → IsSoundAt place (length bytes) e → entry_tree bytes trees e ≡ nil → ⊥
+entry_not_nil bytes trees place (Bytes start end) sound is =
+    let none : slice_range bytes start end ≡ [] = cc in
+    omega (arith, long_range bytes start end sound.0 sound.1, ap length none)
+entry_not_nil bytes trees place (Two first rest) sound is = cc
+
+pub high_single : (es : List Entry) (bytes : List ℕ) (trees : List Tree) (node : ℕ) → IsArena es bytes → trees_of bytes es ≡ trees → FIRST_COUNT ≤ node → node < length trees → single_byte (tree_at trees node) ≡ None
+high_single es bytes trees node arena is low high =
+    let e = get_or es (node - FIRST_COUNT) (Bytes 0 0) in
+    let facts = entry_facts es bytes trees node e arena is low high (get_or_default es (node - FIRST_COUNT) (Bytes 0 0) e (omega (arith, length-trees_of bytes es, ap length is))) in
+    ap single_byte facts.1 ∙ entry_single bytes trees node e facts.0
+
+pub low_single : (es : List Entry) (bytes : List ℕ) (trees : List Tree) (node : ℕ) → trees_of bytes es ≡ trees → 1 ≤ node → node < FIRST_COUNT → single_byte (tree_at trees node) ≡ Some (node - 1)
+low_single es bytes trees node is some low =
+    let at : node ≡ node - 1 + 1 = omega (arith, some) in
+    ap (λ n. single_byte (tree_at trees n)) at ∙ ap single_byte (byte_stands bytes es trees (node - 1) is (omega (arith, some, low)))
+
+-- Nil is node 0 alone.
+pub nil_only : (es : List Entry) (bytes : List ℕ) (trees : List Tree) (node : ℕ) → IsArena es bytes → trees_of bytes es ≡ trees → node < length trees → tree_at trees node ≡ nil → node ≡ 0
+nil_only es bytes trees node arena is high stands = ⊎_elim
+    (λ (low : node < FIRST_COUNT). ⊎_elim
+    (λ (zero_node : node < 1). omega (arith, zero_node))
+    (λ (some : 1 ≤ node). let clash : None ≡ Some (node - 1) = sym (ap single_byte stands) ∙ low_single es bytes trees node is some low in absurd cc)
+    (cases_lt node 1))
+    (λ (behind : FIRST_COUNT ≤ node).
+    let e = get_or es (node - FIRST_COUNT) (Bytes 0 0) in
+    let facts = entry_facts es bytes trees node e arena is behind high (get_or_default es (node - FIRST_COUNT) (Bytes 0 0) e (omega (arith, length-trees_of bytes es, ap length is))) in
+    absurd (entry_not_nil bytes trees node e facts.0 (sym facts.1 ∙ stands)))
+    (cases_lt node FIRST_COUNT)

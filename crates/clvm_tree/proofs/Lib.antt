@@ -1,4 +1,5 @@
 pub mod NodeLaws
+pub mod FirstLaws
 pub mod ArenaLaws
 pub mod UseLaws
 pub mod ReadyLaws

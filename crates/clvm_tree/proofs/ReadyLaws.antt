@@ -1,15 +1,16 @@
 -- How hashes are kept while they are needed.
-use Rattle.std.proofs.Common.{◌≡◌, ℕ, ◌+◌, ◌<◌, ◌≤◌, Some, None, List, [], ◌∷◌, length, refl, sym, ◌∙◌, ap, ⊎_elim, arith}
-use Rattle.std.proofs.lemmas.Bool.{cases_eq}
-use Rattle.clvm_spec.specs.Tree.{Tree, Atom, Pair}
+use Rattle.std.proofs.Common.{◌≡◌, ℕ, ◌+◌, ◌-◌, ◌<◌, ◌≤◌, Some, None, List, [], ◌∷◌, length, refl, sym, ◌∙◌, ap, ⊎_elim, arith}
+use Rattle.std.proofs.lemmas.Bool.{cases_eq, cases_lt}
+use Rattle.clvm_spec.specs.Tree.{Tree, Atom, Pair, nil}
 use Rattle.clvm_spec.specs.Hashing.{atom_hash, tree_hash}
 use Rattle.clvm_tree.specs.Nodes.{tree_at}
 use Rattle.clvm_tree.specs.Arena.{trees_of}
 use Rattle.clvm_tree.specs.Kept.{kept_at, Keeps}
 use Rattle.clvm_tree.specs.Uses.{use_of, IsReady}
-use Rattle.clvm_tree.specs.declared.arena.Entry.{Entry}
+use Rattle.clvm_tree.specs.declared.entry.Entry.{Entry}
+use Rattle.clvm_tree.specs.declared.arena.TheConstants.{FIRST_COUNT}
 use Rattle.clvm_tree.specs.declared.kept.Kept.{Kept}
-use Rattle.clvm_tree.proofs.ArenaLaws.{first_two}
+use Rattle.clvm_tree.proofs.ArenaLaws.{nil_stands, byte_stands}
 
 atom_is : (trees : List Tree) (uses : List ℕ) (kept : Kept) (place node : ℕ) (bytes hash : List ℕ) (tree : Tree) → tree_at trees node ≡ tree → IsReady trees uses kept place place → node < place → place ≤ use_of uses node → kept_at kept node ≡ None
     → ((atom : List ℕ) → tree_at trees node ≡ Atom atom → bytes ≡ atom) → hash ≡ atom_hash bytes → hash ≡ tree_hash (tree_at trees node)
@@ -79,32 +80,30 @@ pub ready_atom : (trees : List Tree) (uses : List ℕ) (kept : Kept) (place : �
 ready_atom trees uses kept place atom ready is =
     ready_next trees uses kept place (ready_later trees uses kept place place ready) (λ first rest used is_pair. let clash : Atom atom ≡ Pair first rest = sym is ∙ is_pair in absurd cc)
 
-none_first : (trees : List Tree) (k : ℕ) (first rest : Tree) → (tree_at trees 0 ≡ Atom []) → (tree_at trees 1 ≡ Atom (1 ∷ [])) → k < 2 → tree_at trees k ≡ Pair first rest → ⊥
-none_first trees k first rest zero one below is_pair = ⊎_elim
-    (λ (same : k ≡ 0). let clash : Atom [] ≡ Pair first rest = sym zero ∙ ap (tree_at trees) (sym same) ∙ is_pair in absurd cc)
-    (λ (other : k ≡ 0 → ⊥).
-    let same : k ≡ 1 = omega (arith, below, other) in
-    let clash : Atom (1 ∷ []) ≡ Pair first rest = sym one ∙ ap (tree_at trees) (sym same) ∙ is_pair in absurd cc)
-    (cases_eq k 0)
-
--- Nil and the atom 01 are no pairs.
-pub ready_first : (bytes : List ℕ) (entries : List Entry) (uses : List ℕ) (kept : Kept) → length kept.slots.items ≡ length uses → ((node : ℕ) → kept_at kept node ≡ None) → IsReady (trees_of bytes entries) uses kept 2 2
-ready_first bytes entries uses kept long none =
+-- The first nodes are no pairs.
+none_first : (bytes : List ℕ) (entries : List Entry) (k : ℕ) (first rest : Tree) → k < FIRST_COUNT → tree_at (trees_of bytes entries) k ≡ Pair first rest → ⊥
+none_first bytes entries k first rest below is_pair =
     let trees = trees_of bytes entries in
-    let two = first_two bytes entries trees refl in
-    record {
-      long = long;
-      right = λ k hash at. let clash : None ≡ Some hash = sym (none k) ∙ at in absurd cc;
-      there = λ k first rest below used is_pair. absurd (none_first trees k first rest two.1 two.2 below is_pair);
-    }
+    ⊎_elim
+    (λ (same : k < 1).
+    let at : k ≡ 0 = omega (arith, same) in
+    let clash : nil ≡ Pair first rest = sym (nil_stands bytes entries trees refl) ∙ ap (tree_at trees) (sym at) ∙ is_pair in absurd cc)
+    (λ (some : 1 ≤ k).
+    let at : k ≡ k - 1 + 1 = omega (arith, some) in
+    let clash : Atom ((k - 1) ∷ []) ≡ Pair first rest = sym (byte_stands bytes entries trees (k - 1) refl (omega (arith, some, below))) ∙ ap (tree_at trees) (sym at) ∙ is_pair in absurd cc)
+    (cases_lt k 1)
+
+pub ready_first : (bytes : List ℕ) (entries : List Entry) (uses : List ℕ) (kept : Kept) → length kept.slots.items ≡ length uses → ((node : ℕ) → kept_at kept node ≡ None) → IsReady (trees_of bytes entries) uses kept FIRST_COUNT FIRST_COUNT
+ready_first bytes entries uses kept long none = record {
+  long = long;
+  right = λ k hash at. let clash : None ≡ Some hash = sym (none k) ∙ at in absurd cc;
+  there = λ k first rest below used is_pair. absurd (none_first bytes entries k first rest below is_pair);
+}
 
 -- Below the first entry no pair is there.
-pub ready_low : (bytes : List ℕ) (entries : List Entry) (uses : List ℕ) (kept : Kept) (made from low : ℕ) → IsReady (trees_of bytes entries) uses kept made from → low ≤ 2 → IsReady (trees_of bytes entries) uses kept low low
-ready_low bytes entries uses kept made from low ready small =
-    let trees = trees_of bytes entries in
-    let two = first_two bytes entries trees refl in
-    record {
-      long = ready.long;
-      right = ready.right;
-      there = λ k first rest below used is_pair. absurd (none_first trees k first rest two.1 two.2 (omega (arith, below, small)) is_pair);
-    }
+pub ready_low : (bytes : List ℕ) (entries : List Entry) (uses : List ℕ) (kept : Kept) (made from low : ℕ) → IsReady (trees_of bytes entries) uses kept made from → low ≤ FIRST_COUNT → IsReady (trees_of bytes entries) uses kept low low
+ready_low bytes entries uses kept made from low ready small = record {
+  long = ready.long;
+  right = ready.right;
+  there = λ k first rest below used is_pair. absurd (none_first bytes entries k first rest (omega (arith, below, small)) is_pair);
+}

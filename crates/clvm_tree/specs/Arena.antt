@@ -2,8 +2,9 @@
 use Rattle.std.specs.Prelude.{ℕ, suc, ◌+◌, ◌^◌, ◌<◌, ◌≤◌, List, [], ◌∷◌, ◌++◌, length, slice_range}
 use Rattle.clvm_spec.specs.Tree.{Tree, Atom, Pair}
 use Rattle.clvm_tree.specs.Nodes.{first_trees, tree_at}
-use Rattle.clvm_tree.specs.declared.arena.Entry.{Entry}
-use Rattle.clvm_tree.specs.declared.arena.Entry.TheVariants.{Bytes, Two}
+use Rattle.clvm_tree.specs.declared.entry.Entry.{Entry}
+use Rattle.clvm_tree.specs.declared.entry.Entry.TheVariants.{Bytes, Two}
+use Rattle.clvm_tree.specs.declared.arena.TheConstants.{FIRST_COUNT}
 
 -- the tree of an entry behind these trees
 abbrev pub entry_tree : List ℕ → List Tree → Entry → Tree
@@ -23,9 +24,9 @@ abbrev pub HasEarlierParts : ℕ → Entry → Type 0
 HasEarlierParts place (Bytes start end) = Unit {0}
 HasEarlierParts place (Two first rest) = (first.0 < place) × (rest.0 < place)
 
--- It speaks of earlier nodes and of bytes that are there.
+-- It speaks of earlier nodes, or of bytes that are there, two at least: an atom of one byte is among the first nodes.
 abbrev pub IsSoundAt : ℕ → ℕ → Entry → Type 0
-IsSoundAt place size (Bytes start end) = (start ≤ end) × (end ≤ size)
+IsSoundAt place size (Bytes start end) = (start + 2 ≤ end) × (end ≤ size)
 IsSoundAt place size (Two first rest) = HasEarlierParts place (Two first rest)
 
 -- the same of entries from this place on
@@ -34,6 +35,6 @@ AreSound place size [] = Unit {0}
 AreSound place size (entry ∷ entries) = IsSoundAt place size entry × AreSound (suc place) size entries
 
 pub record IsArena (entries : List Entry) (bytes : List ℕ) : Type 0 where
-  pub sound : AreSound 2 (length bytes) entries
-  pub few : length entries + 2 < 2 ^ 31
+  pub sound : AreSound FIRST_COUNT (length bytes) entries
+  pub few : length entries + FIRST_COUNT < 2 ^ 31
   pub short : length bytes < 2 ^ 32

@@ -1,5 +1,6 @@
 pub mod Nodes
 pub mod Sights
+pub mod Entries
 pub mod Arena
 pub mod Kept
 pub mod Uses

@@ -1,6 +1,7 @@
 -- What contracts say of the nodes of a `Trees`, which they see as the list of the trees that its nodes stand for.
 -- A node is its place in that list. This project's own.
-use Rattle.std.specs.Prelude.{◌≡◌, ℕ, ◌+◌, ◌<◌, ◌≤◌, List, [], ◌∷◌, ◌++◌, length, slice_index_or}
+use Rattle.std.specs.Prelude.{◌≡◌, ℕ, ◌+◌, ◌<◌, ◌≤◌, List, [], ◌∷◌, ◌++◌, length, map, Option, Some, None, slice_index_or}
+use Rattle.std.specs.List.{range_with_len}
 use Rattle.clvm_spec.specs.Tree.{Tree, Atom, Pair, nil}
 use Rattle.clvm_tree.specs.declared.Node.{Node}
 
@@ -8,9 +9,9 @@ use Rattle.clvm_tree.specs.declared.Node.{Node}
 abbrev pub tree_at : List Tree → ℕ → Tree
 tree_at trees node = slice_index_or trees node nil
 
--- Nil and the atom 01 stand before all others.
-abbrev pub first_trees : List Tree
-first_trees = nil ∷ Atom (1 ∷ []) ∷ []
+-- Nil and the atoms of one byte, from 00 to ff, stand before all others.
+unfoldable pub first_trees : List Tree
+first_trees = nil ∷ map (λ byte. Atom (byte ∷ [])) (range_with_len 0 256)
 
 -- The node is one of these trees.
 abbrev pub IsKnown : List Tree → ℕ → Type 0
@@ -36,6 +37,11 @@ pub record HasParts (trees : List Tree) (node first rest : ℕ) : Type 0 where
   pub pair : tree_at trees node ≡ Pair (tree_at trees first) (tree_at trees rest)
   pub first_earlier : first < node
   pub rest_earlier : rest < node
+
+-- the byte of an atom of one byte; no other tree has one
+abbrev pub single_byte : Tree → Option ℕ
+single_byte (Atom (byte ∷ [])) = Some byte
+single_byte _ = None
 
 pub record IsAtom (tree : Tree) : Type 0 where
   pub bytes : List ℕ

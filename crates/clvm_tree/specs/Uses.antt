@@ -6,8 +6,9 @@ use Rattle.clvm_spec.specs.Hashing.{tree_hash}
 use Rattle.clvm_tree.specs.Nodes.{tree_at}
 use Rattle.clvm_tree.specs.Arena.{HasEarlierParts}
 use Rattle.clvm_tree.specs.Kept.{kept_at}
-use Rattle.clvm_tree.specs.declared.arena.Entry.{Entry}
-use Rattle.clvm_tree.specs.declared.arena.Entry.TheVariants.{Bytes, Two}
+use Rattle.clvm_tree.specs.declared.entry.Entry.{Entry}
+use Rattle.clvm_tree.specs.declared.entry.Entry.TheVariants.{Bytes, Two}
+use Rattle.clvm_tree.specs.declared.arena.TheConstants.{FIRST_COUNT}
 use Rattle.clvm_tree.specs.declared.kept.Kept.{Kept}
 
 abbrev pub use_of : List ℕ → ℕ → ℕ
@@ -19,11 +20,11 @@ HasUsedParts uses place (Bytes start end) = Unit {0}
 HasUsedParts uses place (Two first rest) = (place ≤ use_of uses first.0) × (place ≤ use_of uses rest.0)
 
 abbrev pub AllEarlier : List Entry → Type 0
-AllEarlier entries = (k : ℕ) (d : Entry) → k < length entries → HasEarlierParts (k + 2) (slice_index_or entries k d)
+AllEarlier entries = (k : ℕ) (d : Entry) → k < length entries → HasEarlierParts (k + FIRST_COUNT) (slice_index_or entries k d)
 
 -- from this place on, the parts of each reached node are used until it
 abbrev pub IsClosedFrom : List Entry → List ℕ → ℕ → Type 0
-IsClosedFrom entries uses from = (k : ℕ) (d : Entry) → from ≤ k → 2 ≤ k → k < length uses → 0 < use_of uses k → HasUsedParts uses k (slice_index_or entries (k - 2) d)
+IsClosedFrom entries uses from = (k : ℕ) (d : Entry) → from ≤ k → FIRST_COUNT ≤ k → k < length uses → 0 < use_of uses k → HasUsedParts uses k (slice_index_or entries (k - FIRST_COUNT) d)
 
 -- The node is used until this place or a later one; no other node's use has changed, and none is earlier.
 pub record UsesNode (old new : List ℕ) (node place : ℕ) : Type 0 where

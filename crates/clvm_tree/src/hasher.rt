@@ -5,8 +5,9 @@ ghost use Rattle.clvm_tree.specs.Nodes.{tree_at, IsKnown};
 ghost use Rattle.clvm_tree.specs.Arena.{trees_of, HasEarlierParts, IsArena};
 ghost use Rattle.clvm_tree.specs.Uses.{use_of, HasUsedParts, AllEarlier, IsClosedFrom, UsesNode, UsesParts, IsReady};
 
-use crate::arena::{Entry, Trees};
+use crate::arena::{FIRST_COUNT, Sight, Trees, entry_at, sight_of};
 use crate::byte_hashes::ByteHashes;
+use crate::entry::{Entry, PackedEntry};
 use crate::kept::Kept;
 use crate::{Node, OutOfMemory};
 use sha2::{Digest, Sha256};
@@ -29,11 +30,10 @@ pub fn atom_hash(bytes: &[u8]) -> Hash
 pub fn pair_hash(first: &Hash, rest: &Hash) -> Hash
     ensures { result ≡ pair_hash first.now rest.now }
 {
-    let mut hasher = Sha256::new();
-    hasher.update([2u8]);
-    hasher.update(first.as_slice());
-    hasher.update(rest.as_slice());
-    hasher.finalize()
+    let mut message = [2u8; 65];
+    message[1..33].copy_from_slice(first.as_slice());
+    message[33..].copy_from_slice(rest.as_slice());
+    Sha256::digest(message.as_slice())
 }
 
 /// The tree hash of a proper list whose elements have these hashes.
@@ -72,26 +72,26 @@ fn use_parts(uses: &mut [u32], entry: Entry, place: usize)
 
 // Notes where the parts of each used node are used. Parts are earlier than their pairs, so one walk from the last node
 // does.
-fn use_all(entries: &[Entry], uses: &mut [u32])
+fn use_all(entries: &[PackedEntry], uses: &mut [u32])
     requires earlier { AllEarlier entries.now }
-    requires long { length uses.old ≤ length entries.now + 2 }
+    requires long { length uses.old ≤ length entries.now + FIRST_COUNT }
     requires few { length uses.old < 2 ^ 32 }
     ensures long { length uses.new ≡ length uses.old }
     ensures closed { IsClosedFrom entries.now uses.new 0 }
     ensures kept { (k : ℕ) → use_of uses.old k ≤ use_of uses.new k }
 {
-    for place in (2..uses.len()).rev() {
+    for place in (FIRST_COUNT..uses.len()).rev() {
         if uses[place] > 0 {
-            use_parts(uses, entries[place - 2], place);
+            use_parts(uses, entry_at(entries, place), place);
         }
     }
 }
 
 // Until where the nodes up to this one are used. It is itself used behind all of them.
-fn uses_up_to(alloc: Global, entries: &[Entry], node: usize) -> Result<Vec<u32>, OutOfMemory>
+fn uses_up_to(alloc: Global, entries: &[PackedEntry], node: usize) -> Result<Vec<u32>, OutOfMemory>
     requires earlier { AllEarlier entries.now }
-    requires known { node < length entries.now + 2 }
-    requires few { length entries.now + 2 < 2 ^ 31 }
+    requires known { node < length entries.now + FIRST_COUNT }
+    requires few { length entries.now + FIRST_COUNT < 2 ^ 31 }
     ensures long { IfOk result (λ uses. length uses.items ≡ node + 1) }
     ensures closed { IfOk result (λ uses. IsClosedFrom entries.now uses.items 0) }
     ensures used { IfOk result (λ uses. node + 1 ≤ use_of uses.items node) }
@@ -103,24 +103,20 @@ fn uses_up_to(alloc: Global, entries: &[Entry], node: usize) -> Result<Vec<u32>,
 }
 
 // The bytes of an atom; a pair has none.
-fn atom_at<'a>(entries: &[Entry], bytes: &'a [u8], node: Node) -> &'a [u8]
+fn atom_at<'a>(entries: &[PackedEntry], bytes: &'a [u8], node: Node) -> &'a [u8]
     requires arena { IsArena entries.now bytes.now }
-    requires known { node.0 < length entries.now + 2 }
+    requires known { node.0 < length entries.now + FIRST_COUNT }
     ensures { (atom : List ℕ) → tree_at (trees_of bytes.now entries.now) node.0 ≡ Atom atom → result.now ≡ atom }
 {
-    match node.0 {
-        0 => &[],
-        1 => &[1],
-        place => match entries[place as usize - 2] {
-            Entry::Bytes { start, end } => &bytes[start as usize..end as usize],
-            Entry::Two(_, _) => &[],
-        },
+    match sight_of(entries, bytes, node) {
+        Sight::Bytes(bytes) => bytes,
+        Sight::Parts(_, _) => &[],
     }
 }
 
 // The hash of a node that is used at this place, which is kept if it is used again.
 fn hash_at(
-    entries: &[Entry],
+    entries: &[PackedEntry],
     bytes: &[u8],
     uses: &[u32],
     kept: &mut Kept,
@@ -129,7 +125,7 @@ fn hash_at(
     place: usize,
 ) -> Result<Hash, OutOfMemory>
     requires arena { IsArena entries.now bytes.now }
-    requires known { node.0 < length entries.now + 2 }
+    requires known { node.0 < length entries.now + FIRST_COUNT }
     requires within { node.0 < length uses.now }
     requires earlier { node.0 < place }
     requires used { place ≤ use_of uses.now node.0 }
@@ -160,7 +156,7 @@ fn let_go(uses: &[u32], kept: &mut Kept, node: Node, place: usize)
 
 // Hashes the pair at this place, if it is one, by the hashes of its parts.
 fn hash_pair_at(
-    entries: &[Entry],
+    entries: &[PackedEntry],
     bytes: &[u8],
     uses: &[u32],
     kept: &mut Kept,
@@ -168,14 +164,14 @@ fn hash_pair_at(
     place: usize,
 ) -> Result<(), OutOfMemory>
     requires arena { IsArena entries.now bytes.now }
-    requires known { place < length entries.now + 2 }
-    requires entry { 2 ≤ place }
+    requires known { place < length entries.now + FIRST_COUNT }
+    requires entry { FIRST_COUNT ≤ place }
     requires within { place < length uses.now }
-    requires parts { (d : Entry) → HasUsedParts uses.now place (slice_index_or entries.now (place - 2) d) }
+    requires parts { (d : Entry) → HasUsedParts uses.now place (slice_index_or entries.now (place - FIRST_COUNT) d) }
     requires ready { IsReady (trees_of bytes.now entries.now) uses.now kept.old place place }
     ensures { OnOk result (IsReady (trees_of bytes.now entries.now) uses.now kept.new (place + 1) (place + 1)) }
 {
-    if let Entry::Two(first, rest) = entries[place - 2] {
+    if let Entry::Two(first, rest) = entry_at(entries, place) {
         let first_hash = hash_at(entries, bytes, uses, kept, of_bytes, first, place)?;
         let rest_hash = hash_at(entries, bytes, uses, kept, of_bytes, rest, place)?;
         let_go(uses, kept, first, place);
@@ -188,13 +184,13 @@ fn hash_pair_at(
 // The hash of the last node that is used.
 fn last_hash(
     alloc: Global,
-    entries: &[Entry],
+    entries: &[PackedEntry],
     bytes: &[u8],
     uses: &[u32],
     node: Node,
 ) -> Result<Hash, OutOfMemory>
     requires arena { IsArena entries.now bytes.now }
-    requires known { node.0 < length entries.now + 2 }
+    requires known { node.0 < length entries.now + FIRST_COUNT }
     requires long { length uses.now ≡ node.0 + 1 }
     requires closed { IsClosedFrom entries.now uses.now 0 }
     requires used { node.0 + 1 ≤ use_of uses.now node.0 }
@@ -202,7 +198,7 @@ fn last_hash(
 {
     let mut kept = Kept::new(alloc, uses.len())?;
     let mut of_bytes = ByteHashes::new();
-    for place in 2..uses.len() {
+    for place in FIRST_COUNT..uses.len() {
         if uses[place] > 0 {
             hash_pair_at(entries, bytes, uses, &mut kept, &mut of_bytes, place)?;
         }

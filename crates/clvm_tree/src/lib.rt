@@ -7,6 +7,8 @@ ghost use Rattle.clvm_tree.specs.declared.WriteFault.TheVariants as write_fault;
 
 mod arena;
 mod byte_hashes;
+mod byte_table;
+mod entry;
 mod hasher;
 mod heads;
 mod kept;

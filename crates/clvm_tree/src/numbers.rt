@@ -6,12 +6,13 @@ ghost use Rattle.clvm_tree.specs.Numbers.{short_number, number_in};
 
 use crate::arena::{Sight, Trees};
 use crate::{Node, OutOfMemory};
+use clvm_spec::limits::NUMBER_BYTES;
 use clvm_spec::number_length;
 use std::alloc::Global;
 
 /// The number that big-endian bytes write, without sign. There are at most 16 of them.
 pub fn unsigned(bytes: &[u8]) -> u128
-    requires { length bytes.now ≤ 16 }
+    requires { length bytes.now ≤ NUMBER_BYTES }
     ensures { result ≡ unsigned bytes.now }
 {
     let mut value = 0u128;
@@ -23,7 +24,7 @@ pub fn unsigned(bytes: &[u8]) -> u128
 
 // The same of the complemented bytes.
 fn unsigned_complement(bytes: &[u8]) -> u128
-    requires { length bytes.now ≤ 16 }
+    requires { length bytes.now ≤ NUMBER_BYTES }
     ensures { result ≡ unsigned (complemented bytes.now) }
 {
     let mut value = 0u128;
@@ -35,7 +36,7 @@ fn unsigned_complement(bytes: &[u8]) -> u128
 
 /// The number of an atom's bytes, in two's complement. There are at most 16 of them.
 pub fn number(bytes: &[u8]) -> i128
-    requires { length bytes.now ≤ 16 }
+    requires { length bytes.now ≤ NUMBER_BYTES }
     ensures { result ≡ number bytes.now }
 {
     match bytes {
@@ -48,7 +49,7 @@ pub fn number(bytes: &[u8]) -> i128
 fn short_number(bytes: &[u8]) -> Option<i128>
     ensures { result ≡ short_number bytes.now }
 {
-    if bytes.len() > 16 {
+    if bytes.len() > NUMBER_BYTES {
         return None;
     }
     Some(number(bytes))
@@ -73,6 +74,6 @@ impl Trees {
         ensures out_of_memory { OnErr result (self.new ≡ self.old) }
     {
         let bytes = number.to_be_bytes();
-        self.atom(alloc, &bytes[16 - number_length(number)..])
+        self.atom(alloc, &bytes[NUMBER_BYTES - number_length(number)..])
     }
 }

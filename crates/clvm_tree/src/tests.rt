@@ -1,6 +1,7 @@
 ghost use Rattle.std.specs.Prelude.{◌↔◌, ◌≤◌, length, IsTrue};
 ghost use Rattle.clvm_tree.specs.Nodes.{IsKnown};
 
+use crate::arena::FIRST_COUNT;
 use crate::{
     Hash, Node, OutOfMemory, ReadFault, Sight, Trees, WriteFault, is_spelled as is_one_tree,
     list_hash, pair_hash, unsigned,
@@ -126,8 +127,10 @@ fn makes_and_takes_apart(rt: HostRuntime) -> Result<(), OutOfMemory> {
     let nil = trees.nil();
     let atom = trees.atom(rt.alloc(), b"abc")?;
     let pair = trees.pair(rt.alloc(), atom, nil)?;
-    assert!(rt; trees.len() == 4 && trees.as_pair(pair) == Some((atom, nil)));
+    assert!(rt; trees.atom(rt.alloc(), b"\0")? == trees.byte(0));
+    assert!(rt; trees.len() == FIRST_COUNT + 2 && trees.as_pair(pair) == Some((atom, nil)));
     assert!(rt; trees.bytes_of(atom) == Some(b"abc".as_slice()));
+    assert!(rt; trees.is_nil(nil) && trees.byte_of(trees.byte(0)) == Some(0));
     Ok(())
 }
 
@@ -220,7 +223,7 @@ fn visits_shared_parts_once(rt: HostRuntime) -> Result<(), OutOfMemory> {
     let mut trees = Trees::new(rt.alloc());
     let mut tree = trees.one();
     for _ in 0..60 {
-        assert!(rt; is_known(&trees, tree) && trees.len() < 100);
+        assert!(rt; is_known(&trees, tree) && trees.len() < 1_000);
         tree = trees.pair(rt.alloc(), tree, tree)?;
     }
     assert!(rt; is_known(&trees, tree));

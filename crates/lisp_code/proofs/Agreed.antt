@@ -9,7 +9,7 @@ use Rattle.clvm_spec.specs.Evaluation.{evaluation, run_outcome}
 use Rattle.lisp_spec.specs.Forms.{Form}
 use Rattle.lisp_spec.specs.Modules.{Module, Definition}
 use Rattle.lisp_spec.specs.Parameters.{tree_at}
-use Rattle.lisp_spec.specs.Curried.{quote_of}
+use Rattle.clvm_spec.specs.Currying.{quote_of}
 use Rattle.lisp_spec.specs.Environments.{Environment, function_environment}
 use Rattle.lisp_spec.specs.Meaning.{Meaning, Value, Wide, Out, if_value, run_meaning, expression_meaning, meaning_within, meaning, module_meaning}
 use Rattle.lisp_spec.specs.Agreement.{HasValue, IsWide, RunsTo, RunsWide, Agrees}

@@ -3,7 +3,7 @@
 use Rattle.std.proofs.Common.{◌≡◌, ℕ, zero, suc, ◌≤◌, [], ◌∷◌, map}
 use Rattle.clvm_spec.specs.Tree.{Tree, list_tree}
 use Rattle.lisp_spec.specs.Modules.{Module, Definition}
-use Rattle.lisp_spec.specs.Curried.{quote_of}
+use Rattle.clvm_spec.specs.Currying.{quote_of}
 use Rattle.lisp_code.specs.Pieces.{operator_code, path_code}
 use Rattle.lisp_code.specs.Code.{Codes, expression_code, definition_code, whole_code}
 

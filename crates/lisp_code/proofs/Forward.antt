@@ -5,11 +5,13 @@ use Rattle.clvm_spec.specs.OperatorTable.{applied}
 use Rattle.lisp_spec.specs.Forms.{Form, Place}
 use Rattle.lisp_spec.specs.Forms as form
 use Rattle.lisp_spec.specs.Modules.{Module, Definition, Constant, definition_named, constant_named}
-use Rattle.lisp_spec.specs.Heads.{Head, QuotesRest, QuotesOne, Templates, Unquotes, Chooses, Lists, Operates, Calls, head_of}
-use Rattle.lisp_spec.specs.FormLists.{form_elements, single, is_symbol}
+use Rattle.lisp_spec.specs.declared.head.Head.{Head}
+use Rattle.lisp_spec.specs.declared.head.Head.TheVariants.{QuotesRest, QuotesOne, Templates, Unquotes, Chooses, Lists, Operates, Calls}
+use Rattle.lisp_spec.specs.Heads.{head_of}
+use Rattle.lisp_read.specs.FormLists.{form_elements, single, is_symbol}
 use Rattle.lisp_spec.specs.Parameters.{Side, ToRest, tree_at}
 use Rattle.lisp_spec.specs.Quoted.{quoted_form, symbol_tree}
-use Rattle.lisp_spec.specs.Curried.{quote_of}
+use Rattle.clvm_spec.specs.Currying.{quote_of}
 use Rattle.lisp_spec.specs.Environments.{Environment, Binding, function_environment}
 use Rattle.lisp_spec.specs.Meaning.{Meaning, Value, Failed, Means, if_value, operator_meaning, all_counts, run_values, operate, constant_meaning, name_meaning, function_call, inline_call, chosen, quoted_operand, template_pair, call, by_head, expression_meaning, operand_values, choice_meaning, template_meaning, only_expression, only_template}
 use Rattle.lisp_code.proofs.Refining.{same, Covered, Rises}

@@ -4,7 +4,7 @@ use Rattle.clvm_spec.specs.Tree.{Tree, Pair, nil, list_tree}
 use Rattle.clvm_spec.specs.Spelling.{spelling}
 use Rattle.lisp_spec.specs.Forms.{Form}
 use Rattle.lisp_spec.specs.Modules.{Module, Definition}
-use Rattle.lisp_spec.specs.Curried.{quote_of}
+use Rattle.clvm_spec.specs.Currying.{quote_of}
 use Rattle.lisp_spec.specs.Agreement.{Agrees}
 use Rattle.lisp_spec.specs.CycleLaws.{HasNoCycle}
 use Rattle.lisp_spec.specs.ExpressionWeights.{module_bound}

@@ -8,7 +8,7 @@ use Rattle.clvm_spec.specs.Spelling.{prefix, spelling}
 use Rattle.lisp_spec.specs.Weights.{tree_weight}
 use Rattle.lisp_spec.specs.Parameters.{Side, ToFirst, ToRest}
 use Rattle.lisp_spec.specs.Modules.{Definition}
-use Rattle.lisp_spec.specs.Curried.{quote_of}
+use Rattle.clvm_spec.specs.Currying.{quote_of}
 use Rattle.lisp_code.specs.Paths.{path_number, path_atom}
 use Rattle.lisp_code.specs.Pieces.{operator_code, path_code, failing, pair_code, list_code, if_code, list_path, call_code}
 use Rattle.lisp_code.specs.Code.{index_of}

@@ -4,11 +4,13 @@ use Rattle.clvm_spec.specs.Tree.{Tree, Atom}
 use Rattle.lisp_spec.specs.Forms.{Form, Place}
 use Rattle.lisp_spec.specs.Forms as form
 use Rattle.lisp_spec.specs.Modules.{Definition, definition_named, constant_named}
-use Rattle.lisp_spec.specs.Heads.{Head, QuotesRest, QuotesOne, Templates, Unquotes, Chooses, Lists, Operates, Calls, head_of}
-use Rattle.lisp_spec.specs.FormLists.{form_elements, single, is_symbol}
+use Rattle.lisp_spec.specs.declared.head.Head.{Head}
+use Rattle.lisp_spec.specs.declared.head.Head.TheVariants.{QuotesRest, QuotesOne, Templates, Unquotes, Chooses, Lists, Operates, Calls}
+use Rattle.lisp_spec.specs.Heads.{head_of}
+use Rattle.lisp_read.specs.FormLists.{form_elements, single, is_symbol}
 use Rattle.lisp_spec.specs.Parameters.{ToRest}
 use Rattle.lisp_spec.specs.Quoted.{quoted_form, symbol_tree}
-use Rattle.lisp_spec.specs.Curried.{quote_of}
+use Rattle.clvm_spec.specs.Currying.{quote_of}
 use Rattle.lisp_code.specs.Names.{Names, Named, PathTo, NoPath, ExpressionOf, NoName, named, inline_names}
 use Rattle.lisp_code.specs.Pieces.{operator_code, path_code, failing, pair_code, list_code, if_code}
 use Rattle.lisp_code.specs.Code.{Codes, index_of, with_operands, function_code_call, constant_code, quoted_code, name_code, inline_code, template_code_pair, code_of_call, code_by_head, expression_code, operand_codes, choice_code, template_code, only_expression_code, only_template_code}

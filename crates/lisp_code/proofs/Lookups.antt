@@ -5,10 +5,13 @@ use Rattle.std.proofs.lemmas.Slice.Eq.{bytes_eq-Decides}
 use Rattle.std.specs.List.{list_all}
 use Rattle.clvm_spec.specs.Tree.{Tree}
 use Rattle.clvm_spec.specs.declared.operands.Operands.TheVariants.{Any}
-use Rattle.clvm_spec.specs.OperatorTable.{Operator, operator, quote_cost, by_evaluation, operators, operator_named}
+use Rattle.clvm_spec.specs.declared.costs.TheConstants.{QUOTE_COST}
+use Rattle.clvm_spec.specs.OperatorTable.{Operator, operator, by_evaluation, operators, operator_named}
 use Rattle.lisp_spec.specs.Forms.{Form, Place}
 use Rattle.lisp_spec.specs.Modules.{Definition, definition_named}
-use Rattle.lisp_spec.specs.Heads.{Head, Operates, head_of, operator_head, is_q, is_quote, is_qq, is_unquote, is_if, is_list}
+use Rattle.lisp_spec.specs.declared.head.Head.{Head}
+use Rattle.lisp_spec.specs.declared.head.Head.TheVariants.{Operates}
+use Rattle.lisp_spec.specs.Heads.{head_of, operator_head, is_q, is_quote, is_qq, is_unquote, is_if, is_list}
 use Rattle.lisp_spec.specs.Parameters.{Side, Parameter, parameters, tree_at}
 use Rattle.lisp_spec.specs.Environments.{Environment, Binding, binding_of, bound_to, trees_bound, function_environment, expression_at, standing, expressions_bound, inline_environment}
 use Rattle.lisp_code.specs.Names.{Names, AtPath, Named, named, paths_bound, function_names, deferring, deferred, inline_names}
@@ -88,7 +91,7 @@ q_row name e =
 
 not_one : (name : List ℕ) (row : Operator) → is_q name ≡ false → operator_named name ≡ Some row → (row.code == 1) ≡ false
 unfolding operator_named
-not_one name row q e = found_after (λ row. bytes_eq row.name name) (operator 1 (codes "q") 0 None Any quote_cost by_evaluation) (all_but_first operators) row (q_row name q) e refl
+not_one name row q e = found_after (λ row. bytes_eq row.name name) (operator 1 (codes "q") 0 None Any QUOTE_COST by_evaluation) (all_but_first operators) row (q_row name q) e refl
 
 operates : (name : List ℕ) (found : Option Operator) (code : ℕ) → is_q name ≡ false → operator_named name ≡ found → operator_head found ≡ Operates code → (code == 1) ≡ false
 operates name None code q f e = cc

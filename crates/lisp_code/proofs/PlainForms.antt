@@ -5,9 +5,10 @@ use Rattle.clvm_spec.specs.ProperList.{elements}
 use Rattle.clvm_spec.specs.Operators.{is_nil}
 use Rattle.clvm_spec.specs.OperatorTable.{applied, operator_of}
 use Rattle.clvm_spec.specs.Evaluation.{is_byte}
+use Rattle.clvm_spec.proofs.ListLaws.{elements_of_list}
 use Rattle.lisp_spec.specs.Parameters.{Side, ToFirst, tree_at}
 use Rattle.lisp_spec.specs.Meaning.{Meaning, Value, Failed, Out, if_value, operator_meaning}
-use Rattle.lisp_spec.specs.Curried.{quote_of}
+use Rattle.clvm_spec.specs.Currying.{quote_of}
 use Rattle.lisp_code.proofs.Refining.{Refines, out, same, Rises}
 use Rattle.lisp_code.proofs.Plain.{Runs, plain_run, plain_apply, plain_values, plain_form, plain_by, plain}
 use Rattle.lisp_code.proofs.Plain.{found_meaning}
@@ -48,10 +49,6 @@ plain_rises program env (suc n) zero le = absurd (omega arith)
 plain_rises program env (suc n) (suc m) le = plain_by_refine (plain n) (plain m) (λ program env. plain_rises program env n m (omega arith)) program env
 
 -- ---- an operator on the values of its operands
-
-elements_of_list : (trees : List Tree) → elements (list_tree trees) ≡ Some trees
-elements_of_list [] = refl
-elements_of_list (tree ∷ trees) = ap (option_map (λ more. tree ∷ more)) (elements_of_list trees)
 
 pub plain_operator : (m code : ℕ) (operands : List Tree) (env : Tree) → (code == 1) ≡ false → plain (suc m) (operator_code code operands) env ≡ plain_values (λ operand. plain m operand env) operands (plain_apply (plain m) (code ∷ []))
 plain_operator m code operands env e =

@@ -1,15 +1,18 @@
 -- The code that this project makes of a module. Source: this project's own; it is made so that it agrees with what the
 -- module means.
 use Rattle.std.specs.Prelude.{ℕ, suc, List, [], ◌∷◌, map, Bool, true, false, Option, Some, None, option_map, bytes_eq, codes, if◌then◌else◌}
+use Rattle.clvm_spec.specs.declared.op_codes.TheConstants.{APPLY, RAISE}
 use Rattle.clvm_spec.specs.Tree.{Tree, Atom, list_tree}
 use Rattle.lisp_spec.specs.Forms.{Form, Place}
 use Rattle.lisp_spec.specs.Forms as form
 use Rattle.lisp_spec.specs.Modules.{Module, Definition, Constant, definition_named, constant_named}
-use Rattle.lisp_spec.specs.Heads.{Head, QuotesRest, QuotesOne, Templates, Unquotes, Chooses, Lists, Operates, Calls, head_of}
-use Rattle.lisp_spec.specs.FormLists.{form_elements, single, is_symbol}
+use Rattle.lisp_spec.specs.declared.head.Head.{Head}
+use Rattle.lisp_spec.specs.declared.head.Head.TheVariants.{QuotesRest, QuotesOne, Templates, Unquotes, Chooses, Lists, Operates, Calls}
+use Rattle.lisp_spec.specs.Heads.{head_of}
+use Rattle.lisp_read.specs.FormLists.{form_elements, single, is_symbol}
 use Rattle.lisp_spec.specs.Parameters.{ToRest}
 use Rattle.lisp_spec.specs.Quoted.{quoted_form, symbol_tree}
-use Rattle.lisp_spec.specs.Curried.{quote_of}
+use Rattle.clvm_spec.specs.Currying.{quote_of}
 use Rattle.lisp_code.specs.Names.{Names, Named, PathTo, NoPath, ExpressionOf, NoName, named, function_names, inline_names}
 use Rattle.lisp_code.specs.Pieces.{operator_code, path_code, failing, pair_code, list_code, if_code, call_code}
 
@@ -25,7 +28,7 @@ with_operands make (Some operands) = make operands
 
 -- What is no function fails, once its operands are evaluated. A module without fault has no such call.
 abbrev pub function_code_call : Option ℕ → List Tree → Tree
-function_code_call None operands = operator_code 8 (list_code operands ∷ [])
+function_code_call None operands = operator_code RAISE (list_code operands ∷ [])
 function_code_call (Some k) operands = call_code k operands
 
 abbrev pub constant_code : Option Constant → Tree
@@ -118,4 +121,4 @@ definition_code code f = code f.body (function_names f.params)
 -- `(a (q . BODY) (c (q . FUNCTIONS) 1))`
 abbrev pub whole_code : Module → Codes → Tree
 whole_code source code =
-    operator_code 2 (quote_of (code source.body (function_names source.params)) ∷ pair_code (quote_of (list_tree (map (definition_code code) source.functions))) (path_code []) ∷ [])
+    operator_code APPLY (quote_of (code source.body (function_names source.params)) ∷ pair_code (quote_of (list_tree (map (definition_code code) source.functions))) (path_code []) ∷ [])

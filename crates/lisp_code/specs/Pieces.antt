@@ -1,10 +1,11 @@
 -- Pieces of code. Code runs on a tree whose first is the list of the functions' codes and whose rest is the argument.
 -- Source: this project's own, over the operators of the CLVM reference.
 use Rattle.std.specs.Prelude.{ℕ, zero, suc, List, [], ◌∷◌}
+use Rattle.clvm_spec.specs.declared.op_codes.TheConstants.{APPLY, CHOICE, NEW_PAIR, RAISE}
 use Rattle.clvm_spec.specs.Tree.{Tree, Atom, nil}
 use Rattle.lisp_spec.specs.Parameters.{Side, ToFirst, ToRest}
-pub use Rattle.lisp_spec.specs.Curried.{operator_code}
-use Rattle.lisp_spec.specs.Curried.{quote_of}
+pub use Rattle.clvm_spec.specs.Currying.{operator_code}
+use Rattle.clvm_spec.specs.Currying.{quote_of}
 use Rattle.lisp_code.specs.Paths.{path_atom}
 
 -- what stands at a path of the tree that the code runs on
@@ -13,11 +14,11 @@ path_code path = Atom (path_atom path)
 
 -- `(x)`: code that always fails
 abbrev pub failing : Tree
-failing = operator_code 8 []
+failing = operator_code RAISE []
 
 -- `(c FIRST REST)`
 abbrev pub pair_code : Tree → Tree → Tree
-pair_code first rest = operator_code 4 (first ∷ rest ∷ [])
+pair_code first rest = operator_code NEW_PAIR (first ∷ rest ∷ [])
 
 -- `(c A1 (c A2 .. (q)))`
 abbrev pub list_code : List Tree → Tree
@@ -26,7 +27,7 @@ list_code (first ∷ more) = pair_code first (list_code more)
 
 -- `(a (i TEST (q . THEN) (q . ELSE)) 1)`: only one of the two is run.
 abbrev pub if_code : Tree → Tree → Tree → Tree
-if_code test then_part else_part = operator_code 2 (operator_code 3 (test ∷ quote_of then_part ∷ quote_of else_part ∷ []) ∷ path_code [] ∷ [])
+if_code test then_part else_part = operator_code APPLY (operator_code CHOICE (test ∷ quote_of then_part ∷ quote_of else_part ∷ []) ∷ path_code [] ∷ [])
 
 -- the place of a function's code in the list of them
 abbrev pub list_path : ℕ → List Side
@@ -35,4 +36,4 @@ list_path (suc k) = ToRest ∷ list_path k
 
 -- `(a FUNCTION (c 2 OPERANDS))`: a function's code runs on the same list of codes, with the list of the operands' values.
 abbrev pub call_code : ℕ → List Tree → Tree
-call_code k operands = operator_code 2 (path_code (ToFirst ∷ list_path k) ∷ pair_code (path_code (ToFirst ∷ [])) (list_code operands) ∷ [])
+call_code k operands = operator_code APPLY (path_code (ToFirst ∷ list_path k) ∷ pair_code (path_code (ToFirst ∷ [])) (list_code operands) ∷ [])

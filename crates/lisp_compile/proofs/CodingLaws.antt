@@ -4,12 +4,14 @@ use Rattle.std.specs.Prelude.{option_and_then, codes}
 use Rattle.clvm_spec.specs.Tree.{Tree, Atom, Pair, list_tree}
 use Rattle.lisp_spec.specs.Forms.{Form, Place}
 use Rattle.lisp_spec.specs.Forms as form
-use Rattle.lisp_spec.specs.FormLists.{form_elements, single, the_only, is_symbol}
-use Rattle.lisp_spec.specs.Heads.{Head, QuotesRest, QuotesOne, Templates, Unquotes, Chooses, Lists, Operates, Calls, head_of}
+use Rattle.lisp_read.specs.FormLists.{form_elements, single, the_only, is_symbol}
+use Rattle.lisp_spec.specs.declared.head.Head.{Head}
+use Rattle.lisp_spec.specs.declared.head.Head.TheVariants.{QuotesRest, QuotesOne, Templates, Unquotes, Chooses, Lists, Operates, Calls}
+use Rattle.lisp_spec.specs.Heads.{head_of}
 use Rattle.lisp_spec.specs.Modules.{Definition, Constant, definition_named, constant_named}
 use Rattle.lisp_spec.specs.Parameters.{Side, ToRest}
 use Rattle.lisp_spec.specs.Quoted.{quoted_form}
-use Rattle.lisp_spec.specs.Curried.{quote_of}
+use Rattle.clvm_spec.specs.Currying.{quote_of}
 use Rattle.lisp_code.specs.Names.{Names, Named, PathTo, NoPath, ExpressionOf, NoName, named, inline_names}
 use Rattle.lisp_code.specs.Pieces.{operator_code, path_code, failing, pair_code, list_code, if_code}
 use Rattle.lisp_code.specs.Code.{Codes, with_operands, function_code_call, constant_code, quoted_code, name_code, inline_code, index_of, code_of_call, code_by_head, expression_code, operand_codes, choice_code, template_code, only_expression_code, only_template_code}

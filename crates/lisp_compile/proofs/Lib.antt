@@ -1,4 +1,3 @@
-pub mod NameLaws
 pub mod PathLaws
 pub mod JobLaws
 pub mod CodingLaws

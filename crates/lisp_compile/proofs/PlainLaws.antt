@@ -1,19 +1,45 @@
 -- Chains of `(qq (unquote ..))` come to the expression inside.
-use Rattle.std.proofs.Common.{◌≡◌, ℕ, Bool, true, false, cond, List, [], ◌∷◌, Some, None, Option, codes, bytes_eq, ⊎_elim, ◌<◌, refl, sym, ap, ◌∙◌, subst, arith}
+use Rattle.std.proofs.Common.{◌≡◌, ℕ, Bool, true, false, cond, List, [], ◌∷◌, Some, None, Option, codes, bytes_eq, Bor, ⊎_elim, ◌<◌, refl, sym, ap, ◌∙◌, subst, arith}
 use Rattle.std.proofs.lemmas.Bool.{cases_Bool, cond-true, cond-false}
 use Rattle.std.proofs.lemmas.Slice.Eq.{bytes_eq-Decides}
+use Rattle.std.specs.Prelude.{option_and_then, MatchOption}
 use Rattle.clvm_spec.specs.OperatorTable.{Operator, operator_named}
+use Rattle.lisp_read.specs.declared.form.Form as declared
+use Rattle.lisp_read.specs.Views.{form_of}
 use Rattle.lisp_read.specs.Copies.{size as form_size}
 use Rattle.lisp_spec.specs.Forms.{Form, Place}
 use Rattle.lisp_spec.specs.Forms as form
-use Rattle.lisp_spec.specs.FormLists.{is_symbol}
-use Rattle.lisp_spec.specs.Heads.{Head, QuotesRest, QuotesOne, Templates, Unquotes, Chooses, Lists, head_of, operator_head, is_q, is_quote, is_qq, is_unquote, is_if, is_list}
+use Rattle.lisp_read.specs.FormLists.{form_elements, the_only, is_symbol, IsOnly, IsNotOne}
+use Rattle.lisp_spec.specs.declared.head.Head.{Head}
+use Rattle.lisp_spec.specs.declared.head.Head.TheVariants.{QuotesRest, QuotesOne, Templates, Unquotes, Chooses, Lists}
+use Rattle.lisp_spec.specs.Heads.{head_of, operator_head, is_q, is_quote, is_qq, is_unquote, is_if, is_list}
 use Rattle.lisp_code.specs.Names.{Names}
 use Rattle.lisp_code.specs.Pieces.{failing}
-use Rattle.lisp_compile.specs.Parts.{only_of, branches_of, quasi_of, unquoted_of}
+use Rattle.lisp_compile.specs.Parts.{only_of, only_behind, quasi_of, unquoted_of}
 use Rattle.lisp_compile.specs.Jobs.{Coding, template_of}
-use Rattle.lisp_compile.proofs.CodingLaws.{code_or_fails, template_or_fails, code_templates}
+use Rattle.lisp_compile.proofs.CodingLaws.{single_is, code_or_fails, template_or_fails, code_templates}
 use Rattle.lisp_compile.proofs.TemplateJobs.{template_unquote_is}
+
+-- ---- one element
+
+none_of_elements : (elements : Option (List Form)) → ((e : Form) → elements ≡ Some (e ∷ []) → ⊥) → option_and_then the_only elements ≡ None
+none_of_elements None none = refl
+none_of_elements (Some []) none = refl
+none_of_elements (Some (e ∷ [])) none = absurd (none e refl)
+none_of_elements (Some (e ∷ f ∷ more)) none = refl
+
+pub no_only : (list : Form) → IsNotOne list → only_of list ≡ None
+no_only list none = sym (single_is list) ∙ none_of_elements (form_elements list) none
+
+pub the_only_is : (list e : Form) → IsOnly list e → only_of list ≡ Some e
+the_only_is list e only = sym (single_is list) ∙ ap (option_and_then the_only) only.elements
+
+pub one_behind : (name : List ℕ) (f : Form) (at : Place) (first rest : Form) (found : Option (Bor declared.Form)) → f ≡ form.Pair at first rest → is_symbol name first ≡ true →
+    MatchOption found (IsNotOne rest) (λ only. IsOnly rest (form_of only.now)) → MatchOption found (only_behind name f ≡ None) (λ e. only_behind name f ≡ Some (form_of e.now))
+one_behind name f at first rest None is named none = ap (only_behind name) is ∙ ap (λ b. cond b (only_of rest) None) named ∙ no_only rest none
+one_behind name f at first rest (Some e) is named only = ap (only_behind name) is ∙ ap (λ b. cond b (only_of rest) None) named ∙ the_only_is rest (form_of e.now) only
+
+-- ---- chains
 
 some_if : (b : Bool) (o : Option Form) (f : Form) → cond b o None ≡ Some f → (b ≡ true) × (o ≡ Some f)
 some_if true o f e = (refl, e)
@@ -101,16 +127,3 @@ unquoted_smaller (form.Pair at first rest) e h = let both = some_if (is_symbol (
 
 pub link_smaller : (inner t e : Form) → quasi_of inner ≡ Some t → unquoted_of t ≡ Some e → form_size e < form_size inner
 link_smaller inner t e q u = let a = quasi_smaller inner t q in let b = unquoted_smaller t e u in omega arith
-
--- ---- three elements
-
-branches_rest : (p q : Place) (a b rest c : Form) → only_of rest ≡ Some c → branches_of (form.Pair p a (form.Pair q b rest)) ≡ Some (record { test = a; then_part = b; else_part = c })
-branches_rest p q a b (form.Atom at bytes) c h = absurd (cc)
-branches_rest p q a b (form.Symbol at name) c h = absurd (cc)
-branches_rest p q a b (form.Pair at first (form.Atom end [])) c h = let same : first ≡ c = cc in ap (λ c. Some (record { test = a; then_part = b; else_part = c })) same
-branches_rest p q a b (form.Pair at first (form.Atom end (x ∷ bytes))) c h = absurd (cc)
-branches_rest p q a b (form.Pair at first (form.Symbol end name)) c h = absurd (cc)
-branches_rest p q a b (form.Pair at first (form.Pair end x y)) c h = absurd (cc)
-
-pub branches_are : (list behind rest : Form) (p q : Place) (a b c : Form) → list ≡ form.Pair p a behind → behind ≡ form.Pair q b rest → only_of rest ≡ Some c → branches_of list ≡ Some (record { test = a; then_part = b; else_part = c })
-branches_are list behind rest p q a b c e f h = ap branches_of (e ∙ ap (form.Pair p a) f) ∙ branches_rest p q a b rest c h

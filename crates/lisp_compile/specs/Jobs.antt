@@ -1,5 +1,6 @@
 -- What is to be made, on trees: each job goes on with the trees that are made so far, the newest first. This project's own.
 use Rattle.std.specs.Prelude.{◌≡◌, ℕ, ◌+◌, ◌*◌, List, [], ◌∷◌, map, Option, Some, None}
+use Rattle.clvm_spec.specs.declared.op_codes.TheConstants.{APPLY, FIRST, REST}
 use Rattle.clvm_spec.specs.Tree.{Tree, Atom, Pair, list_tree}
 use Rattle.lisp_spec.specs.Forms.{Form}
 use Rattle.lisp_spec.specs.Modules.{Module}
@@ -33,8 +34,8 @@ template_of it template names = template_code it.source (further it) template na
 
 -- the operator that takes a step
 abbrev pub step_code : Side → ℕ
-step_code ToFirst = 5
-step_code ToRest = 6
+step_code ToFirst = FIRST
+step_code ToRest = REST
 
 -- what applies the steps to a value, the first step inside
 abbrev pub part_code : List Side → Tree → Tree
@@ -43,7 +44,7 @@ part_code (side ∷ path) tree = part_code path (operator_code (step_code side) 
 
 -- the call of a function with code that makes its operands
 abbrev pub called : ℕ → Tree → Tree
-called k operands = operator_code 2 (path_code (ToFirst ∷ list_path k) ∷ pair_code (path_code (ToFirst ∷ [])) operands ∷ [])
+called k operands = operator_code APPLY (path_code (ToFirst ∷ list_path k) ∷ pair_code (path_code (ToFirst ∷ [])) operands ∷ [])
 
 pub data Job : Type 0 where
   -- the code of an expression

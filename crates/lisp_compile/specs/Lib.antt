@@ -1,4 +1,3 @@
-pub mod HeadViews
 pub mod Sides
 pub mod Scopes
 pub mod Pieces

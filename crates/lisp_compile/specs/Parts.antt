@@ -1,7 +1,6 @@
 -- What a list of forms has in it: its one element, or its three. This project's own.
-use Rattle.std.specs.Prelude.{[], ◌∷◌, Option, Some, None, codes, if◌then◌else◌}
-use Rattle.lisp_spec.specs.FormLists.{is_symbol}
-use Rattle.lisp_spec.specs.Heads.{is_qq}
+use Rattle.std.specs.Prelude.{ℕ, List, [], ◌∷◌, Option, Some, None, codes, if◌then◌else◌}
+use Rattle.lisp_read.specs.FormLists.{is_symbol}
 use Rattle.lisp_spec.specs.Forms.{Form}
 use Rattle.lisp_spec.specs.Forms as form
 
@@ -20,12 +19,15 @@ branches_of (form.Pair at test (form.Pair second then_part (form.Pair third else
     Some (record { test = test; then_part = then_part; else_part = else_part })
 branches_of other = None
 
+-- what stands behind a head of this name, alone
+abbrev pub only_behind : List ℕ → Form → Option Form
+only_behind name (form.Pair at first rest) = if is_symbol name first then only_of rest else None
+only_behind name other = None
+
 -- the template of `(qq TEMPLATE)`
 abbrev pub quasi_of : Form → Option Form
-quasi_of (form.Pair at (form.Symbol place name) rest) = if is_qq name then only_of rest else None
-quasi_of other = None
+quasi_of form = only_behind (codes "qq") form
 
 -- the expression of `(unquote EXPRESSION)`
 abbrev pub unquoted_of : Form → Option Form
-unquoted_of (form.Pair at first rest) = if is_symbol (codes "unquote") first then only_of rest else None
-unquoted_of other = None
+unquoted_of form = only_behind (codes "unquote") form

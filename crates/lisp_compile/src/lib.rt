@@ -2,9 +2,11 @@
 #![tactic(auto)]
 
 mod forms;
-mod head;
 mod parameters;
 mod path;
 mod pieces;
 
 pub use lisp_read::OutOfMemory;
+
+#[cfg(test)]
+mod tests;

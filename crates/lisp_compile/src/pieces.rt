@@ -3,10 +3,11 @@
 ghost use Rattle.std.specs.Prelude.{◌≡◌, ℕ, ◌+◌, ◌<◌, ◌^◌, [], ◌∷◌, length, IfOk, OnErr};
 ghost use Rattle.clvm_spec.specs.Tree.{Atom, Pair, nil};
 ghost use Rattle.clvm_tree.specs.Nodes.{tree_at, IsKnown, Grows};
-ghost use Rattle.lisp_spec.specs.Curried.{quote_of};
+ghost use Rattle.clvm_spec.specs.Currying.{quote_of};
 ghost use Rattle.lisp_code.specs.Pieces.{operator_code, path_code, failing, pair_code, if_code};
 ghost use Rattle.lisp_compile.specs.Pieces.{Makes};
 
+use clvm_spec::op_codes::{APPLY, CHOICE, RAISE};
 use clvm_tree::{Node, Trees};
 use lisp_read::OutOfMemory;
 use std::alloc::Global;
@@ -34,7 +35,7 @@ pub(crate) fn fail(alloc: Global, trees: &mut Trees) -> Result<Node, OutOfMemory
     ensures ok { IfOk result (λ node. Makes trees.old trees.new node.0 failing 2) }
 {
     let nil = trees.nil();
-    form_of_list(alloc, trees, 8, nil)
+    form_of_list(alloc, trees, RAISE, nil)
 }
 
 /// `(q . TREE)`.
@@ -139,7 +140,7 @@ pub(crate) fn choice(
 {
     let then_part = quote(alloc, trees, then_part)?;
     let else_part = quote(alloc, trees, else_part)?;
-    let chosen = form_of_three(alloc, trees, 3, test, then_part, else_part)?;
+    let chosen = form_of_three(alloc, trees, CHOICE, test, then_part, else_part)?;
     let environment = trees.one();
-    form_of_two(alloc, trees, 2, chosen, environment)
+    form_of_two(alloc, trees, APPLY, chosen, environment)
 }

@@ -7,7 +7,7 @@ use Rattle.clvm_tree.specs.Nodes.{tree_at, IsKnown, AreKnown, Grows, Adds}
 use Rattle.clvm_tree.specs.Operators.{trees_at}
 use Rattle.clvm_tree.specs.declared.Node.{Node}
 use Rattle.clvm_tree.proofs.NodeLaws.{grows_same, grows_on, grows_length, stays}
-use Rattle.lisp_spec.specs.Curried.{quote_of, environment_with}
+use Rattle.clvm_spec.specs.Currying.{quote_of, environment_with}
 
 pub grows_either : (a b : List Tree) (tree : Tree) (made : Result Node AllocError) → IfOk made (λ n. Adds a b n.0 tree) → OnErr made (b ≡ a) → Grows a b
 grows_either a b tree (Ok node) ok err = ok.grows

@@ -8,7 +8,7 @@ use Rattle.clvm_tree.specs.Operators.{trees_at}
 use Rattle.clvm_tree.specs.declared.Node.{Node}
 use Rattle.clvm_spec.specs.Operators.{is_nil}
 use Rattle.clvm_spec.specs.Evaluation.{is_code}
-use Rattle.lisp_spec.specs.Curried.{quote_of, operator_code, environment_arguments, uncurried, with_program}
+use Rattle.clvm_spec.specs.Currying.{quote_of, operator_code, environment_arguments, uncurried, with_program}
 use Rattle.lisp_library.specs.Parts.{form_parts}
 
 and_true : (b : Bool) → (b && true) ≡ b

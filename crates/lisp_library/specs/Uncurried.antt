@@ -3,7 +3,7 @@ use Rattle.std.specs.Prelude.{◌≡◌, List, Option, Some, None}
 use Rattle.clvm_spec.specs.Tree.{Tree}
 use Rattle.clvm_tree.specs.Nodes.{tree_at, IsKnown, AreKnown}
 use Rattle.clvm_tree.specs.Operators.{trees_at}
-use Rattle.lisp_spec.specs.Curried.{CurriedParts}
+use Rattle.clvm_spec.specs.Currying.{CurriedParts}
 use Rattle.lisp_library.specs.declared.uncurrying.Curried.{Curried}
 
 -- The nodes stand for the program and the arguments.

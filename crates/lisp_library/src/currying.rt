@@ -2,15 +2,11 @@ ghost use Rattle.std.specs.Prelude.{◌≡◌, ◌+◌, ◌*◌, ◌<◌, ◌≤
 ghost use Rattle.clvm_spec.specs.Tree.{Pair, nil};
 ghost use Rattle.clvm_tree.specs.Nodes.{tree_at, IsKnown, AreKnown, Grows};
 ghost use Rattle.clvm_tree.specs.Operators.{trees_at};
-ghost use Rattle.lisp_spec.specs.Curried.{quote_of, curried, quote_hash, form_hash, curried_hash};
+ghost use Rattle.clvm_spec.specs.Currying.{quote_of, curried, quote_hash, form_hash, curried_hash};
 
+use clvm_spec::op_codes::{APPLY, NEW_PAIR, QUOTE};
 use clvm_tree::{Hash, Node, OutOfMemory, Trees, atom_hash, pair_hash};
 use std::alloc::Global;
-
-// The codes of the operators `a` and `c`.
-const APPLY: u8 = 2;
-
-const CONS: u8 = 4;
 
 // `(OPERATOR (q . QUOTED) LAST)`.
 fn form(
@@ -54,7 +50,7 @@ pub fn curry(
         ≡ curried (tree_at trees.old program.0) (trees_at trees.old arguments.now)) }
 {
     let apply = trees.atom(alloc, &[APPLY])?;
-    let cons = trees.atom(alloc, &[CONS])?;
+    let cons = trees.atom(alloc, &[NEW_PAIR])?;
     let mut environment = trees.one();
     for place in (0..arguments.len()).rev() {
         environment = form(alloc, trees, cons, arguments[place], environment)?;
@@ -65,7 +61,7 @@ pub fn curry(
 fn quote_hash(hash: &Hash) -> Hash
     ensures { result ≡ quote_hash hash.now }
 {
-    pair_hash(&atom_hash(&[1]), hash)
+    pair_hash(&atom_hash(&[QUOTE]), hash)
 }
 
 // The hash of `(OPERATOR (q . QUOTED) LAST)`.
@@ -83,7 +79,7 @@ pub fn curried_hash(program: &Hash, arguments: &[Hash]) -> Hash
 {
     let mut environment = atom_hash(&[1]);
     for place in (0..arguments.len()).rev() {
-        environment = form_hash(CONS, &arguments[place], &environment);
+        environment = form_hash(NEW_PAIR, &arguments[place], &environment);
     }
     form_hash(APPLY, program, &environment)
 }

@@ -3,11 +3,12 @@ ghost use Rattle.clvm_spec.specs.Tree.{nil};
 ghost use Rattle.clvm_tree.specs.Nodes.{tree_at, IsKnown};
 ghost use Rattle.clvm_spec.specs.Operators.{is_nil};
 ghost use Rattle.clvm_spec.specs.Evaluation.{is_code};
-ghost use Rattle.lisp_spec.specs.Curried.{uncurried};
+ghost use Rattle.clvm_spec.specs.Currying.{uncurried};
 ghost use Rattle.lisp_library.specs.Parts.{form_parts, HasFormParts};
 ghost use Rattle.lisp_library.specs.Uncurried.{IsUncurried};
 
 use crate::Nodes;
+use clvm_spec::op_codes::{APPLY, NEW_PAIR, QUOTE};
 use clvm_tree::{Node, OutOfMemory, Trees};
 use std::alloc::Global;
 
@@ -42,7 +43,7 @@ fn form_parts(trees: &Trees, node: Node, operator: u8) -> Option<(Node, Node)>
     let (quote, behind) = trees.as_pair(operands)?;
     let (q, quoted) = trees.as_pair(quote)?;
     let (last, end) = trees.as_pair(behind)?;
-    if is_code(trees, head, operator) && is_code(trees, q, 1) && is_nil(trees, end) {
+    if is_code(trees, head, operator) && is_code(trees, q, QUOTE) && is_nil(trees, end) {
         Some((quoted, last))
     } else {
         None
@@ -55,11 +56,11 @@ pub fn uncurry(alloc: Global, trees: &Trees, node: Node) -> Result<Option<Currie
     requires { IsKnown trees.now node.0 }
     ensures { IfOk result (IsUncurried trees.now (uncurried (tree_at trees.now node.0))) }
 {
-    let Some((program, mut environment)) = form_parts(trees, node, 2) else {
+    let Some((program, mut environment)) = form_parts(trees, node, APPLY) else {
         return Ok(None);
     };
     let mut arguments = Vec::new(alloc);
-    'arguments: while let Some((argument, more)) = form_parts(trees, environment, 4) {
+    'arguments: while let Some((argument, more)) = form_parts(trees, environment, NEW_PAIR) {
         arguments.push(argument)?;
         environment = more;
     }

@@ -5,11 +5,10 @@ use Rattle.lisp_read.specs.declared.form.Form as declared
 use Rattle.lisp_read.specs.Views.{form_of}
 use Rattle.lisp_read.specs.Copies.{size}
 use Rattle.lisp_spec.specs.Forms.{Form, Atom, Symbol, Pair, Place}
-use Rattle.lisp_spec.specs.FormLists.{form_elements, is_symbol}
+use Rattle.lisp_read.specs.FormLists.{form_elements, is_symbol, AreThree}
 use Rattle.lisp_spec.specs.Parameters.{path_of}
 use Rattle.lisp_spec.specs.Macros as faults
 use Rattle.lisp_spec.specs.MacroBodies.{MacroCall, BodyValue, Gives, Stops, if_given, template_value, headed_value, expression_value, branch_value, unless_astray, parameter_or, body_value}
-use Rattle.lisp_macro.specs.Lists.{AreThree}
 use Rattle.lisp_macro.specs.Operators.{row_of, head_of, head_at, suits}
 use Rattle.lisp_macro.specs.Values.{IsAstray}
 use Rattle.lisp_macro.specs.declared.operators.Head.{Head}

@@ -2,7 +2,7 @@
 use Rattle.std.proofs.Common.{◌≡◌, ℕ, suc, Bool, true, false, List, [], ◌∷◌, length, Option, Some, None, option_map, refl, ap, sym, ◌∙◌, true≢false, arith}
 use Rattle.std.proofs.lemmas.Bool.{cond-true, eqb-true}
 use Rattle.lisp_spec.specs.Forms.{Form, Atom, Symbol, Pair, Place}
-use Rattle.lisp_spec.specs.FormLists.{form_elements, form_list}
+use Rattle.lisp_read.specs.FormLists.{form_elements, form_list}
 use Rattle.lisp_spec.specs.MacroBodies.{BodyValue, BodyEvaluator, Gives, Stops, if_given, unless_astray, operand_values, operation_value, takes}
 use Rattle.lisp_macro.specs.declared.operators.Operator.{Operator}
 use Rattle.lisp_macro.specs.declared.operators.Operator.TheVariants as op

@@ -6,11 +6,11 @@ use Rattle.lisp_read.specs.Views.{form_of}
 use Rattle.lisp_read.specs.Copies.{size}
 use Rattle.lisp_spec.specs.Forms.{Form, Atom, Symbol, Pair, Place}
 use Rattle.lisp_spec.specs.FormParts.{Part, Expression, Operands, Template, OneTemplate}
-use Rattle.lisp_spec.specs.FormLists.{is_symbol}
+use Rattle.lisp_read.specs.FormLists.{is_symbol, is_empty}
 use Rattle.lisp_spec.specs.Macros as faults
 use Rattle.lisp_spec.specs.Macros.{Macro, MacroFault, nesting_limit}
 use Rattle.lisp_spec.specs.Weights.{form_weight, weight_limit}
-use Rattle.lisp_spec.specs.MacroBodies.{BodyValue, Gives, Stops, is_empty, body_value}
+use Rattle.lisp_spec.specs.MacroBodies.{BodyValue, Gives, Stops, body_value}
 use Rattle.lisp_spec.specs.Expansion.{Expanded, Expands, Breaks, PairKind, Calls, Behind, Kept, if_expanded, nesting, within_limits, limited, kind_of, pair_expanded, call_given, written_at, with_rest, with_both, expanded_by, expanded_again, expanded_part}
 use Rattle.lisp_spec.proofs.ExpansionSteps.{expansion_step_law}
 use Rattle.lisp_macro.specs.declared.fault.MacroFault as declared

@@ -2,7 +2,6 @@ pub mod Nodes
 pub mod Values
 pub mod Loads
 pub mod Unloads
-pub mod Lists
 pub mod Operators
 pub mod MacroCode
 pub mod Defined

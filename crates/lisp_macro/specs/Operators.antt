@@ -1,11 +1,11 @@
 -- What the program's heads and operators stand for, and what an operator gives for the list of its operands' values.
 -- This project's own.
 use Rattle.std.specs.Prelude.{ℕ, Bool, false, is_some, List, Option, Some, None, option_map, option_and_then, codes}
+use Rattle.lisp_read.specs.FormLists.{is_long}
 use Rattle.lisp_spec.specs.Forms.{Form, Place, is_pair}
 use Rattle.lisp_spec.specs.Forms as form
 use Rattle.lisp_spec.specs.MacroBodies as body
 use Rattle.lisp_spec.specs.MacroBodies.{FormOperator, form_operator, BodyHead, chosen, flag, is_same}
-use Rattle.lisp_macro.specs.Lists.{is_long}
 use Rattle.lisp_macro.specs.Values.{first_part, rest_part}
 use Rattle.lisp_macro.specs.declared.operators.Operator.{Operator}
 use Rattle.lisp_macro.specs.declared.operators.Operator.TheVariants.{First, Rest, Pair, IsPair, Choice, Same, List as Lists}

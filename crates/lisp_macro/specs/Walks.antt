@@ -6,6 +6,7 @@ use Rattle.lisp_spec.specs.Forms.{Form, Place}
 use Rattle.lisp_spec.specs.Forms as form
 use Rattle.lisp_spec.specs.FormParts as parts
 use Rattle.lisp_spec.specs.Macros.{Macro}
+use Rattle.lisp_spec.specs.Weights.{weight_limit}
 use Rattle.lisp_spec.specs.Expansion.{Expanded, Expands, PairKind, if_expanded, with_rest, expanded_part}
 use Rattle.lisp_spec.specs.Expansion as expansion
 use Rattle.lisp_macro.specs.Defined.{macro_with}
@@ -67,7 +68,7 @@ next_left (Has form) = 0
 
 -- more than there is to do with what a call gives: its parts are bounded by its weight
 abbrev pub call_work : ℕ
-call_work = 786_433
+call_work = 3 * weight_limit + 1
 
 -- ---- steps
 

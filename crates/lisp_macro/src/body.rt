@@ -10,7 +10,6 @@ ghost use Rattle.lisp_macro.specs.Evaluations.{operand_list, frame_goes, frame_l
 
 use crate::call::Call;
 use crate::fault::Stop;
-use crate::lists::{is_symbol, only, three};
 use crate::load::load;
 use crate::operators::{Head, Operator, head_at};
 use crate::value::Value;
@@ -59,13 +58,13 @@ impl<'a> Call<'a> {
         match head {
             Head::Quotation => Ok(Next::Gives(load(self.alloc, self.bump, rest)?)),
             Head::TemplateOf => {
-                let Some(template) = only(rest) else {
+                let Some(template) = rest.only() else {
                     return Err(Stop::BadMacro);
                 };
                 Ok(Next::Fills(template))
             }
             Head::Branches => {
-                let Some((condition, second, third)) = three(rest) else {
+                let Some((condition, second, third)) = rest.three() else {
                     return Err(Stop::BadMacro);
                 };
                 frames.push(Frame::Branches(second, third))?;
@@ -132,8 +131,8 @@ impl<'a> Call<'a> {
                 Ok(Next::Gives(symbol))
             }
             Form::Pair(place, first, rest) => {
-                if is_symbol(b"unquote", first.get()) {
-                    let Some(expression) = only(rest.get()) else {
+                if first.get().is_symbol(b"unquote") {
+                    let Some(expression) = rest.get().only() else {
                         return Err(Stop::BadMacro);
                     };
                     return Ok(Next::Evaluates(expression));

@@ -5,7 +5,6 @@ mod body;
 mod call;
 mod fault;
 mod given;
-mod lists;
 mod load;
 mod macros;
 mod operators;

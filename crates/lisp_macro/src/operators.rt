@@ -2,13 +2,12 @@
 
 ghost use Rattle.std.specs.Prelude.{◌≡◌, Some, option_map, bytes_eq, find, MatchResult, IfOk};
 ghost use Rattle.lisp_read.specs.Views.{form_of};
-ghost use Rattle.lisp_spec.specs.FormLists.{form_elements};
+ghost use Rattle.lisp_read.specs.FormLists.{form_elements};
 ghost use Rattle.lisp_spec.specs.MacroBodies.{FormOperator, form_operators, body_head, flag};
 ghost use Rattle.lisp_macro.specs.Values.{IsAstray};
 ghost use Rattle.lisp_macro.specs.Operators.{row_of, head_of, head_at, suits, list_choice, list_applied};
 
 use crate::fault::Stop;
-use crate::lists::{is_list, is_list_of};
 use crate::value::Value;
 use bumpalo::Bump;
 use lisp_read::{Form, OutOfMemory, Place};
@@ -97,10 +96,10 @@ impl Operator {
         ensures { result ≡ suits (row_of self).count (form_elements (form_of operands.now)) }
     {
         match self {
-            Operator::First | Operator::Rest | Operator::IsPair => is_list_of(1, operands),
-            Operator::Pair | Operator::Same => is_list_of(2, operands),
-            Operator::Choice => is_list_of(3, operands),
-            Operator::List => is_list(operands),
+            Operator::First | Operator::Rest | Operator::IsPair => operands.is_list_of(1),
+            Operator::Pair | Operator::Same => operands.is_list_of(2),
+            Operator::Choice => operands.is_list_of(3),
+            Operator::List => operands.is_list(),
         }
     }
 

@@ -2,9 +2,11 @@
 
 ghost use Rattle.std.specs.Prelude.{◌≡◌, IfOk, Some, MatchResult, nat_lt};
 ghost use Rattle.lisp_read.specs.Forms.{Atom, Symbol, Pair, is_pair};
-ghost use Rattle.lisp_spec.specs.MacroBodies.{is_empty, is_same};
+ghost use Rattle.lisp_read.specs.FormLists.{is_empty};
+ghost use Rattle.lisp_spec.specs.MacroBodies.{is_same};
 ghost use Rattle.lisp_spec.specs.Macros.{nesting_limit};
 ghost use Rattle.lisp_spec.specs.Expansion.{nesting};
+ghost use Rattle.lisp_spec.specs.declared.limits.TheConstants.{MOST_WEIGHT};
 ghost use Rattle.lisp_spec.specs.Weights.{form_weight, weight_limit};
 ghost use Rattle.lisp_macro.specs.Values.{first_part, rest_part, IsAstray};
 ghost use Rattle.lisp_macro.specs.Nodes.{node_form};
@@ -13,6 +15,7 @@ ghost use Rattle.std.specs.Prelude.{◌+◌, length, min};
 use crate::fault::Stop;
 use bumpalo::Bump;
 use lisp_read::{OutOfMemory, Place};
+use lisp_spec::limits::{MOST_NESTING, MOST_WEIGHT};
 use std::cmp::{max, min};
 use std::marker::Model;
 
@@ -52,15 +55,11 @@ impl<'a> Model for Value<'a> {
     ghost size = { turns_to_drop };
 }
 
-const MOST_NESTING: u32 = 1_024;
-
-const MOST_WEIGHT: u32 = 262_144;
-
 // The weight of an atom or a symbol, up to one more than the limit.
 fn leaf_weight(bytes: &[u8]) -> u32
-    ensures { result ≡ min (1 + length bytes.now) 262_145 }
+    ensures { result ≡ min (1 + length bytes.now) (MOST_WEIGHT + 1) }
 {
-    min(bytes.len(), 262_144) as u32 + 1
+    min(bytes.len(), MOST_WEIGHT as usize) as u32 + 1
 }
 
 impl<'a> Value<'a> {

@@ -1,20 +1,21 @@
 //! The expansion of a form by macros, from the outside in, with a stack in place of a recursion.
 
-ghost use Rattle.std.specs.Prelude.{◌≡◌, ℕ, List, is_some, IfOk, IfErr};
+ghost use Rattle.std.specs.Prelude.{◌≡◌, ℕ, List, is_some, Err, IfOk, IfErr};
 ghost use Rattle.lisp_read.specs.Views.{form_of};
 ghost use Rattle.lisp_read.specs.Copies.{size};
 ghost use Rattle.lisp_spec.specs.FormParts as parts;
-ghost use Rattle.lisp_spec.specs.FormLists.{form_elements};
+ghost use Rattle.lisp_read.specs.FormLists.{form_elements};
 ghost use Rattle.lisp_spec.specs.Macros.{Macro, macro_named};
 ghost use Rattle.lisp_spec.specs.Expansion.{Expands, call_kind, kind_of, written_at, expanded_part, expansion};
 ghost use Rattle.lisp_macro.specs.Faults.{IsMacroFault};
+ghost use Rattle.lisp_macro.specs.declared.fault.MacroFault.TheVariants as faults;
 ghost use Rattle.lisp_macro.specs.Walks.{part_of, pair_of, IsKind, level_goes, level_left, StepsTo};
 
 use crate::MacroFault;
 use crate::given::call_given;
-use crate::lists::{is_list, is_nil, is_symbol};
 use crate::macros::{Definition, Macros};
 use lisp_read::{Form, FormBox, Parts, Place, Word};
+use lisp_spec::head::Head;
 use std::alloc::Global;
 
 /// As what a form is looked at.
@@ -68,7 +69,7 @@ fn called<'a>(macros: &'a Macros, name: &Word, rest: &Form) -> Kind<'a>
     let Some(definition) = macros.find(name) else {
         return Kind::Behind(Part::Operands);
     };
-    if is_list(rest) {
+    if rest.is_list() {
         Kind::Calls(definition)
     } else {
         Kind::Behind(Part::Operands)
@@ -81,9 +82,9 @@ fn kind_of<'a>(macros: &'a Macros, head: &Form, rest: &Form) -> Kind<'a>
     let Form::Symbol(_, name) = head else {
         return Kind::Behind(Part::Operands);
     };
-    match name.as_slice() {
-        b"q" | b"quote" => Kind::Kept,
-        b"qq" => Kind::Behind(Part::OneTemplate),
+    match Head::of(name.as_slice()) {
+        Head::QuotesRest | Head::QuotesOne => Kind::Kept,
+        Head::Templates => Kind::Behind(Part::OneTemplate),
         _ => called(macros, name, rest),
     }
 }
@@ -130,7 +131,7 @@ fn look_at_operands(levels: &mut Vec<Level>, pair: Pair) -> Result<Next, MacroFa
 fn look_at_template(levels: &mut Vec<Level>, pair: Pair) -> Result<Next, MacroFault>
     ensures { (macros : List Macro) (turns : ℕ) → StepsTo macros levels.old.items levels.new.items turns turns (expanded_part macros parts.Template pair.outer (pair_of pair) turns) (size (pair_of pair)) result }
 {
-    if is_symbol(b"unquote", pair.first.get()) {
+    if pair.first.get().is_symbol(b"unquote") {
         levels.push(Level::Rest(pair.place, pair.first))?;
         return Ok(Next::Looks(Part::Operands, pair.outer, pair.rest.into_inner()));
     }
@@ -142,7 +143,7 @@ fn look_at_template(levels: &mut Vec<Level>, pair: Pair) -> Result<Next, MacroFa
 fn look_at_one_template(levels: &mut Vec<Level>, pair: Pair) -> Result<Next, MacroFault>
     ensures { (macros : List Macro) (turns : ℕ) → StepsTo macros levels.old.items levels.new.items turns turns (expanded_part macros parts.OneTemplate pair.outer (pair_of pair) turns) (size (pair_of pair)) result }
 {
-    if !is_nil(pair.rest.get()) {
+    if !pair.rest.get().is_nil() {
         return Ok(Next::Has(Form::Pair(pair.place, pair.first, pair.rest)));
     }
     levels.push(Level::First(pair.place, Part::OneTemplate, pair.outer, pair.rest))?;
@@ -214,8 +215,27 @@ fn go_on(
 
 /// The form with each call of a macro replaced by what its body gives, from the outside in. The turns are those that are
 /// left, and fall by those used. A fault stands at the outermost call, the one that is written in the form. Where memory is
-/// wanting, of the turns nothing is said.
+/// wanting the turns stand as before.
 pub fn expand(
+    alloc: Global,
+    form: &Form,
+    macros: &Macros,
+    turns: &mut u32,
+) -> Result<Form, MacroFault>
+    ensures expanded { IfOk result (λ expanded. expansion macros.now (form_of form.now) turns.old ≡ Expands (form_of expanded) turns.new) }
+    ensures fault { IfErr result (IsMacroFault (expansion macros.now (form_of form.now) turns.old) turns.new) }
+    ensures out_of_memory { result ≡ Err faults.OutOfMemory → turns.new ≡ turns.old }
+{
+    let mut left = *turns;
+    let expanded = expand_within(alloc, form, macros, &mut left);
+    if !matches!(expanded, Err(MacroFault::OutOfMemory)) {
+        *turns = left;
+    }
+    expanded
+}
+
+// Where memory is wanting, of the turns nothing is said.
+fn expand_within(
     alloc: Global,
     form: &Form,
     macros: &Macros,

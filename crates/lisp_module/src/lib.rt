@@ -5,3 +5,6 @@ mod module;
 
 pub use lisp_read::{Form, OutOfMemory, Place, Word};
 pub use module::{Constant, Definition, Module};
+
+#[cfg(test)]
+mod tests;

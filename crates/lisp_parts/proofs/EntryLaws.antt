@@ -6,7 +6,7 @@ use Rattle.std.specs.Str.{IsUtf8, IsAscii}
 use Rattle.std.proofs.lemmas.Str.{IsUtf8-from_ascii}
 use Rattle.std.proofs.lemmas.Bool.Decides.{nat_tests}
 use Rattle.lisp_spec.specs.Forms.{Form, Atom, Symbol, Pair, Place, place_of_form}
-use Rattle.lisp_spec.specs.FormLists.{form_elements, is_symbol}
+use Rattle.lisp_read.specs.FormLists.{form_elements, is_symbol}
 use Rattle.lisp_spec.specs.Parameters.{is_parameter_tree}
 use Rattle.lisp_spec.specs.Definitions.{Role, Function, Inline, Macro, Entry, Defines, Includes, Shapeless, is_ascii, with_params, constant, include, entry_with, entry_in, entry_of}
 use Rattle.lisp_parts.specs.Symbols.{IsAsciiName, HasAsciiSymbols, HaveAsciiSymbols}

@@ -3,7 +3,7 @@ use Rattle.std.proofs.Common.{◌≡◌, ℕ, suc, ◌<◌, ◌==◌, length, Bo
 use Rattle.std.specs.Prelude.{option_map}
 use Rattle.lisp_read.specs.Forms.{Form, Atom, Symbol, Pair}
 use Rattle.lisp_spec.specs.Forms.{Place}
-use Rattle.lisp_spec.specs.FormLists.{form_elements}
+use Rattle.lisp_read.specs.FormLists.{form_elements}
 
 abbrev pub spine : Form → ℕ
 spine (Atom place bytes) = 0

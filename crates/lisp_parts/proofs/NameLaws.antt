@@ -1,8 +1,5 @@
 -- Names that are added one by one.
 use Rattle.std.proofs.Common.{◌≡◌, ℕ, Bool, true, false, not, cond, List, [], ◌∷◌, ◌++◌, refl, sym, ap, ◌∙◌}
-use Rattle.std.specs.Prelude.{Option, None, Some, option_map, is_some, ◌||◌}
-use Rattle.clvm_spec.specs.OperatorTable.{operator_named}
-use Rattle.lisp_spec.specs.Heads.{is_word, is_reserved}
 use Rattle.lisp_spec.specs.ModuleFaults.{is_among}
 
 pub not_false : (b : Bool) → not b ≡ false → b ≡ true
@@ -24,13 +21,3 @@ is_new name added names new a n e = ap (λ w. is_among w names) (sym a) ∙ not_
 pub stands_last : (name added : List ℕ) (names after : List (List ℕ)) → added ≡ name → after ≡ cond (is_among added names) names (names ++ added ∷ []) → is_among name names ≡ false → after ≡ names ++ name ∷ []
 stands_last name added names after a e n =
     e ∙ ap (λ b. cond b names (names ++ added ∷ [])) (ap (λ w. is_among w names) a ∙ n) ∙ ap (λ w. names ++ w ∷ []) a
-
--- ---- names of the language
-
-some_mapped : {A B : Type 0} (f : A → B) (o : Option A) → is_some (option_map f o) ≡ is_some o
-some_mapped f None = refl
-some_mapped f (Some a) = refl
-
-pub reserved_by : (name : List ℕ) (code : Option ℕ) (some : Bool) → code ≡ option_map (λ row. row.code) (operator_named name) → some ≡ is_some code → is_reserved name ≡ (some || is_word name)
-unfolding is_reserved
-reserved_by name code some e s = ap (λ b. b || is_word name) (sym (s ∙ ap is_some e ∙ some_mapped (λ row. row.code) (operator_named name)))

@@ -16,7 +16,7 @@ use Rattle.lisp_read.specs.Laws.{IsPlaced, ArePlaced}
 use Rattle.lisp_read.specs.Grammar.{Reads, forms_of}
 use Rattle.lisp_read.proofs.PlaceLaws.{places_law}
 use Rattle.lisp_spec.specs.Forms.{Form, Atom, Symbol, Pair}
-use Rattle.lisp_spec.specs.FormLists.{form_elements}
+use Rattle.lisp_read.specs.FormLists.{form_elements}
 use Rattle.lisp_spec.specs.Definitions.{is_ascii}
 use Rattle.lisp_parts.specs.Symbols.{IsAsciiName, HasAsciiSymbols, HaveAsciiSymbols}
 

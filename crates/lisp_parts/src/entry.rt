@@ -4,11 +4,11 @@ ghost use Rattle.std.specs.Prelude.{◌≡◌, IfOk};
 ghost use Rattle.std.specs.List.{list_all};
 ghost use Rattle.lisp_read.specs.Views.{form_of};
 ghost use Rattle.lisp_spec.specs.Definitions.{is_ascii, entry_of, with_params as params_entry, constant as constant_entry, include as include_entry};
-ghost use Rattle.lisp_spec.specs.FormLists.{form_elements};
+ghost use Rattle.lisp_read.specs.FormLists.{form_elements};
 ghost use Rattle.lisp_parts.specs.Entries.{entry_seen, with_elements};
 ghost use Rattle.lisp_parts.specs.Views.{role_of};
 
-use crate::lists::{is_end, is_symbol, split, the_only};
+use crate::lists::{split, the_only};
 use crate::parameters::is_parameter_tree;
 use crate::{OutOfMemory, Place, Role, Written};
 use lisp_read::{Form, Parts, Word};
@@ -110,15 +110,15 @@ pub(crate) fn read_entry(alloc: Global, form: Form) -> Result<Entry, OutOfMemory
     let Some((head, parts)) = split(form) else {
         return Ok(Entry::Shapeless);
     };
-    if is_symbol(&head, b"defun") {
+    if head.is_symbol(b"defun") {
         with_params(alloc, Role::Function, place, parts)
-    } else if is_symbol(&head, b"defun-inline") {
+    } else if head.is_symbol(b"defun-inline") {
         with_params(alloc, Role::Inline, place, parts)
-    } else if is_symbol(&head, b"defmacro") {
+    } else if head.is_symbol(b"defmacro") {
         with_params(alloc, Role::Macro, place, parts)
-    } else if is_symbol(&head, b"defconstant") {
+    } else if head.is_symbol(b"defconstant") {
         Ok(constant(alloc, place, parts))
-    } else if is_symbol(&head, b"include") {
+    } else if head.is_symbol(b"include") {
         Ok(include(parts))
     } else {
         Ok(Entry::Shapeless)

@@ -1,24 +1,14 @@
 //! Forms as lists.
 
-ghost use Rattle.std.specs.Prelude.{◌≡◌, ◌↔◌, ◌∷◌, ◌^◌, ◌<◌, [], Some, false, map, length, option_map, IfOk, IsTrue, IfSome, MatchOption};
+ghost use Rattle.std.specs.Prelude.{◌≡◌, ◌∷◌, ◌^◌, ◌<◌, [], false, length, option_map, IfOk, MatchOption};
 ghost use Rattle.lisp_read.specs.Forms.{Pair, place_of_form, is_pair};
 ghost use Rattle.lisp_read.specs.Views.{form_of};
-ghost use Rattle.lisp_spec.specs.FormLists.{form_elements, single, is_symbol as is_symbol_of};
+ghost use Rattle.lisp_read.specs.FormLists.{form_elements, single};
 
 use crate::OutOfMemory;
 use lisp_read::{Form, Forms, Parts};
 use std::alloc::Global;
 use std::marker::Model;
-
-/// Whether a form is this symbol.
-pub(crate) fn is_symbol(form: &Form, name: &[u8]) -> bool
-    ensures { result ≡ is_symbol_of name.now (form_of form.now) }
-{
-    match form {
-        Form::Symbol(_, other) => other.as_slice() == name,
-        _ => false,
-    }
-}
 
 /// The first and the rest of a pair.
 pub(crate) fn split(form: Form) -> Option<(Form, Form)>
@@ -35,17 +25,7 @@ pub(crate) fn the_only(list: Form) -> Option<Form>
     ensures { option_map form_of result ≡ single (form_of list) }
 {
     let (first, rest) = split(list)?;
-    if is_end(&rest) { Some(first) } else { None }
-}
-
-/// Whether a form ends a proper list.
-pub(crate) fn is_end(form: &Form) -> bool
-    ensures { IsTrue result ↔ (form_elements (form_of form.now) ≡ Some []) }
-{
-    match form {
-        Form::Atom(_, bytes) => bytes.as_slice().is_empty(),
-        _ => false,
-    }
+    if rest.is_nil() { Some(first) } else { None }
 }
 
 /// The elements of a proper list.

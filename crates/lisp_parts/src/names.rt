@@ -1,14 +1,14 @@
 //! Names: as texts, those of the language, and sets of them.
 
 ghost use Rattle.std.specs.Prelude.{◌≡◌, [], ◌∷◌, ◌++◌, not, length, OnOk, OnErr, IfOk, if◌then◌else◌};
-ghost use Rattle.lisp_spec.specs.Heads.{is_word as is_word_of, is_reserved as is_reserved_name};
+ghost use Rattle.lisp_spec.specs.Heads.{is_reserved as is_reserved_name};
 ghost use Rattle.lisp_spec.specs.ModuleFaults.{is_among};
 ghost use Rattle.lisp_parts.specs.Symbols.{IsAsciiName};
 
 use crate::OutOfMemory;
-use case_table::code_of;
 use indexmap::IndexSet;
 use lisp_read::Word;
+use lisp_spec::head::Head;
 use std::alloc::Global;
 use std::marker::Model;
 
@@ -23,22 +23,12 @@ pub(crate) fn as_text(name: &Word) -> &str
     }
 }
 
-fn is_word(name: &str) -> bool
-    ensures { result ≡ is_word_of name.now }
-{
-    name == "if"
-        || name == "list"
-        || name == "qq"
-        || name == "unquote"
-        || name == "quote"
-        || name == "mod"
-}
-
-/// Whether the language has this name itself: as that of an operator, or as a word.
-pub(crate) fn is_reserved(name: &str) -> bool
+/// Whether the language has this name itself.
+#[tactic(auto, unfolding(lisp_spec::specs::Heads::is_reserved))]
+pub(crate) fn is_reserved(name: &Word) -> bool
     ensures { result ≡ is_reserved_name name.now }
 {
-    code_of(name).is_some() || is_word(name)
+    Head::of(name.as_slice()).is_own() || name.as_slice() == b"mod".as_slice()
 }
 
 /// Names, each once, in the order in which they were added.

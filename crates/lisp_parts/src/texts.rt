@@ -2,8 +2,8 @@
 
 ghost use Rattle.std.specs.Prelude.{◌≡◌, ◌≤◌, ◌<◌, ◌^◌, ℕ, List, Option, option_map, length, IfOk, IfErr, IsErrOf};
 ghost use Rattle.lisp_read.specs.Views.{form_of};
-ghost use Rattle.lisp_spec.specs.FormLists.{the_only};
-ghost use Rattle.lisp_spec.specs.Inclusion.{form_of_text, forms_of_library, if_short};
+ghost use Rattle.lisp_read.specs.FormLists.{the_only};
+ghost use Rattle.lisp_spec.specs.Inclusion.{longest_text, form_of_text, forms_of_library, if_short};
 ghost use Rattle.ports_io.specs.Outside.{IsTextOf, Rose, Stays};
 ghost use Rattle.lisp_parts.specs.Faults.{IsFaultOf, SaysNothing};
 ghost use Rattle.lisp_parts.specs.Symbols.{HasAsciiSymbols, HaveAsciiSymbols};
@@ -11,13 +11,11 @@ ghost use Rattle.lisp_parts.specs.Steps.{Finds, forms_named};
 
 use crate::lists::{Rest, elements};
 use crate::{PartsFault, Place};
+use clvm_spec::limits::MOST_SPELLED;
 use lisp_library::built_in;
 use lisp_read::{Form, Forms, ReadAt, forms};
 use ports_io::{Library, LibraryError};
 use std::alloc::Global;
-
-/// The most bytes of a library's text.
-const LONGEST_TEXT: usize = 67_108_864;
 
 // The one form.
 fn the_one(mut forms: Forms) -> Option<Form>
@@ -39,7 +37,7 @@ pub(crate) fn start_of(number: u32) -> Place
 
 /// The one form of a text, or the text's first fault.
 pub(crate) fn read_form(alloc: Global, text: &[u8], number: u32) -> Result<Form, PartsFault>
-    requires { length text.now ≤ 2 ^ 26 }
+    requires { length text.now ≤ longest_text }
     ensures found { IfOk result (λ form. form_of_text number text.now ≡ Ok (form_of form)) }
     ensures symbols { IfOk result (λ form. HasAsciiSymbols (form_of form)) }
     ensures fault { IfErr result (IsFaultOf (form_of_text number text.now)) }
@@ -57,7 +55,7 @@ pub(crate) fn read_form(alloc: Global, text: &[u8], number: u32) -> Result<Form,
 
 // The definitions of a library's text.
 fn library_forms(alloc: Global, text: &[u8], number: u32) -> Result<Rest, PartsFault>
-    requires { length text.now ≤ 2 ^ 26 }
+    requires { length text.now ≤ longest_text }
     ensures found { Finds (λ forms. forms) (forms_of_library number text.now) result }
     ensures symbols { IfOk result HaveAsciiSymbols }
     ensures few { IfOk result (λ forms. length forms < 2 ^ 64) }
@@ -83,7 +81,7 @@ fn fetch_short<B: Library>(
     ensures cause { IsErrOf result PartsFault.LibraryFault → Rose (B.faults library.old) (B.faults library.new) }
 {
     match library.fetch(alloc, name) {
-        Ok(Some(text)) => Ok(if text.len() <= LONGEST_TEXT {
+        Ok(Some(text)) => Ok(if text.len() <= MOST_SPELLED {
             Some(text)
         } else {
             None

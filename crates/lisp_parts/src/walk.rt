@@ -18,11 +18,9 @@ use crate::parameters::repeated;
 use crate::texts::named_forms;
 use crate::{PartsFault, Place, Written};
 use lisp_read::{Form, Word};
+use lisp_spec::limits::MOST_TEXTS;
 use ports_io::Library;
 use std::alloc::Global;
-
-/// The most texts that a module includes: each has a number.
-const MOST_TEXTS: usize = 4_294_967_295;
 
 /// How far the definitions of a module are walked.
 #[derive(Drop)]
@@ -46,15 +44,14 @@ impl Walk {
 
     // A definition stands behind the others.
     fn define(&mut self, alloc: Global, written: Written) -> Result<(), PartsFault>
-        requires named { IsNamed self.old }
-        requires text { IsAsciiName written.name }
+        requires { IsNamed self.old }
         ensures found { OnOk result (defined (written_of written) (walk_of self.old) ≡ Ok (walk_of self.new)) }
         ensures named { OnOk result (IsNamed self.new) }
         ensures fault { IfErr result (IsFaultOf (defined (written_of written) (walk_of self.old))) }
         ensures included { self.new.included ≡ self.old.included }
         ensures quiet { IsErrOf result PartsFault.LibraryFault → ⊥ }
     {
-        if is_reserved(as_text(&written.name)) {
+        if is_reserved(&written.name) {
             return Err(PartsFault::NotAModule(written.name_place));
         }
         let new = self.names.add(written.name.copy(alloc)?)?;

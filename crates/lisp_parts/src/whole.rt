@@ -1,15 +1,15 @@
 //! A module's text as a whole.
 
-ghost use Rattle.std.specs.Prelude.{◌≡◌, ◌≤◌, ◌^◌, length, option_map, IfOk, IfSome, IsErrOf};
+ghost use Rattle.std.specs.Prelude.{◌≡◌, ◌≤◌, length, option_map, IfOk, IfSome, IsErrOf};
 ghost use Rattle.lisp_read.specs.Views.{form_of};
-ghost use Rattle.lisp_spec.specs.FormLists.{form_elements};
-ghost use Rattle.lisp_spec.specs.Inclusion.{parts_of, parts_of_text};
+ghost use Rattle.lisp_read.specs.FormLists.{form_elements};
+ghost use Rattle.lisp_spec.specs.Inclusion.{longest_text, parts_of, parts_of_text};
 ghost use Rattle.ports_io.specs.Outside.{Rose, Stays};
 ghost use Rattle.lisp_parts.specs.Symbols.{HasAsciiSymbols, HaveAsciiSymbols};
 ghost use Rattle.lisp_parts.specs.Steps.{Finds, ForSomeTexts};
 ghost use Rattle.lisp_parts.specs.TakenApart.{outline_of, Answers};
 
-use crate::lists::{Rest, elements, is_symbol};
+use crate::lists::{Rest, elements};
 use crate::parameters::{is_parameter_tree, repeated};
 use crate::texts::{read_form, start_of};
 use crate::walk::definitions;
@@ -53,7 +53,7 @@ fn outline_in(alloc: Global, form: Form) -> Result<Option<Outline>, OutOfMemory>
     let Some(params) = definitions.next() else {
         return Ok(None);
     };
-    if !is_symbol(&head, b"mod") {
+    if !head.is_symbol(b"mod") {
         return Ok(None);
     }
     if !is_parameter_tree(alloc, &params)? {
@@ -68,7 +68,7 @@ fn outline_in(alloc: Global, form: Form) -> Result<Option<Outline>, OutOfMemory>
 
 // The module's own text, which is read first.
 fn read_outline(alloc: Global, text: &[u8]) -> Result<Outline, PartsFault>
-    requires { length text.now ≤ 2 ^ 26 }
+    requires { length text.now ≤ longest_text }
     ensures found { Finds outline_of (parts_of_text text.now) result }
     ensures symbols { IfOk result (λ outline. HaveAsciiSymbols outline.definitions) }
     ensures quiet { IsErrOf result PartsFault.LibraryFault → ⊥ }
@@ -91,7 +91,7 @@ pub fn parts<B: Library>(
     text: &[u8],
     library: &mut B,
 ) -> Result<ModuleParts, PartsFault>
-    requires { length text.now ≤ 2 ^ 26 }
+    requires { length text.now ≤ longest_text }
     ensures answer { ForSomeTexts (B.texts library.old) (λ texts. Answers text.now texts result) }
     ensures texts { Stays (B.texts library.old) (B.texts library.new) }
     ensures later { B.faults library.old ≤ B.faults library.new }

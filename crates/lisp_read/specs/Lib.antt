@@ -3,6 +3,7 @@ pub mod FormCode
 pub mod Views
 pub mod Turns
 pub mod Copies
+pub mod FormLists
 pub mod Grammar
 pub mod Faults
 pub mod OpenLists

@@ -9,6 +9,7 @@ pub mod laws;
 mod lists;
 mod place;
 mod reader;
+mod shapes;
 #[cfg(test)]
 mod tests;
 mod word;

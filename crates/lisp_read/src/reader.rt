@@ -1,6 +1,7 @@
 //! Reading: the forms of a text, or its first fault.
 
-ghost use Rattle.std.specs.Prelude.{◌≡◌, ◌∷◌, ◌++◌, [], ◌≤◌, ◌^◌, ℕ, List, length, None, IfOk, IfErr};
+ghost use Rattle.std.specs.Prelude.{◌≡◌, ◌∷◌, ◌++◌, [], ◌≤◌, ℕ, List, length, None, IfOk, IfErr};
+ghost use Rattle.clvm_spec.specs.declared.limits.TheConstants.{MOST_SPELLED};
 ghost use Rattle.clvm_spec.specs.Tokens.{Opening, Closing, Point, Took, Unread};
 ghost use Rattle.text_tokens.specs.Meanings.{meant};
 ghost use Rattle.lisp_read.specs.Views.{form_of};
@@ -12,11 +13,9 @@ ghost use Rattle.lisp_read.specs.OpenLists.{IsFirstDot, IsFirstFault, IsBroken, 
 
 use crate::lists::{OpenList, Reach};
 use crate::{Form, Forms, Place, ReadAt, ReadKind, Word};
+use clvm_spec::limits::MOST_OPEN;
 use std::alloc::Global;
 use text_tokens::{Front, Token, first_token};
-
-/// How many parentheses may be open at once.
-const MOST_OPEN: usize = 1024;
 
 // The place of the outermost open dot: of these lists, or else the last, which stands within them.
 fn first_dot(lists: &[OpenList], last: Option<Place>) -> Option<Place>
@@ -169,7 +168,7 @@ fn step(
             put(alloc, lists, Form::Atom(place, bytes), place)
         }
         Token::Symbol(name) => {
-            let name = Word::from_vec(Vec::from_slice(alloc, name)?);
+            let name = Word::from_slice(alloc, name)?;
             put(alloc, lists, Form::Symbol(place, name), place)
         }
     }
@@ -178,7 +177,7 @@ fn step(
 /// The forms of a text of at most 67,108,864 bytes, from first to last, or its first fault. The text's number is that
 /// of each place.
 pub fn forms(alloc: Global, text: &[u8], number: u32) -> Result<Forms, ReadAt>
-    requires { length text.now ≤ 2 ^ 26 }
+    requires { length text.now ≤ MOST_SPELLED }
     ensures found { IfOk result (λ forms. forms_of number text.now ≡ Reads forms) }
     ensures fault { IfErr result (IsReadFault (forms_of number text.now)) }
 {

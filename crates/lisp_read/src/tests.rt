@@ -348,7 +348,7 @@ fn takes_forms_apart(rt: HostRuntime) -> Result<(), OutOfMemory> {
 }
 
 fn word(alloc: Global, bytes: &[u8]) -> Result<Word, OutOfMemory> {
-    Ok(Word::from_vec(Vec::from_slice(alloc, bytes)?))
+    Word::from_slice(alloc, bytes)
 }
 
 #[test]

@@ -1,7 +1,7 @@
 -- What a macro's body gives with more turns.
 use Rattle.std.proofs.Common.{◌≡◌, ℕ, zero, suc, ◌+◌, ◌≤◌, Bool, true, false, cond, List, [], ◌∷◌, length, Option, Some, None, codes, refl, sym, ap, subst, arith}
 use Rattle.lisp_spec.specs.Forms.{Form, Atom, Symbol, Pair, Place}
-use Rattle.lisp_spec.specs.FormLists.{form_elements, is_symbol}
+use Rattle.lisp_read.specs.FormLists.{form_elements, is_symbol}
 use Rattle.lisp_spec.specs.Parameters.{path_of}
 use Rattle.lisp_spec.specs.Macros.{TurnsSpent, BadMacro, TooLarge}
 use Rattle.lisp_spec.specs.MacroBodies.{MacroCall, chosen, FormOperator, BodyHead, Quotation, TemplateOf, Branches, Operation, NoHead, body_head, BodyValue, Gives, Stops, if_given, unless_astray, BodyEvaluator, operand_values, takes, operation_value, branch_value, one_value, template_value, headed_value, expression_value, with_turn, valued_within, body_value, parameter_or}

@@ -1,7 +1,7 @@
 -- The laws on the turns of a macro's body.
 use Rattle.std.proofs.Common.{◌≡◌, ℕ, zero, suc, ◌≤◌, Bool, true, false, cond, List, [], ◌∷◌, length, Option, Some, None, codes, refl, ap, ◌∙◌, arith}
 use Rattle.lisp_spec.specs.Forms.{Form, Atom, Symbol, Pair, Place}
-use Rattle.lisp_spec.specs.FormLists.{form_elements, is_symbol}
+use Rattle.lisp_read.specs.FormLists.{form_elements, is_symbol}
 use Rattle.lisp_spec.specs.Parameters.{path_of}
 use Rattle.lisp_spec.specs.MacroBodies.{MacroCall, chosen, FormOperator, BodyHead, Quotation, TemplateOf, Branches, Operation, NoHead, body_head, BodyValue, Gives, Stops, if_given, unless_astray, BodyEvaluator, operand_values, takes, operation_value, branch_value, one_value, template_value, headed_value, expression_value, valued_within, body_value, parameter_or}
 use Rattle.lisp_spec.specs.ExpansionLaws.{BodyBoundIsEnough, BodyIsItsStep}

@@ -6,9 +6,11 @@ use Rattle.clvm_spec.specs.Operators.{is_nil}
 use Rattle.clvm_spec.specs.OperatorTable.{operator_named}
 use Rattle.lisp_spec.specs.Forms.{Form, Place}
 use Rattle.lisp_spec.specs.Forms as form
-use Rattle.lisp_spec.specs.FormLists.{form_elements, form_list, headed, is_symbol}
+use Rattle.lisp_read.specs.FormLists.{form_elements, form_list, headed, is_symbol}
 use Rattle.lisp_spec.specs.FormParts.{Part, Expression, Operands, Template, OneTemplate}
-use Rattle.lisp_spec.specs.Heads.{Head, QuotesRest, QuotesOne, Templates, Unquotes, Chooses, Lists, Operates, Calls, head_of}
+use Rattle.lisp_spec.specs.declared.head.Head.{Head}
+use Rattle.lisp_spec.specs.declared.head.Head.TheVariants.{QuotesRest, QuotesOne, Templates, Unquotes, Chooses, Lists, Operates, Calls}
+use Rattle.lisp_spec.specs.Heads.{head_of}
 use Rattle.lisp_spec.specs.Modules.{Module, Definition, Constant, definition_named, definition_names, constant_names}
 use Rattle.lisp_spec.specs.Parameters.{Side, ToFirst, ToRest, Parameter, parameters, tree_at}
 use Rattle.lisp_spec.specs.Environments.{Environment, Empty, Bound, Astray, Stands, Binding, ToTree, ToNoStep, ToExpression, ToNothing, binding_of, bound_to, trees_bound, function_environment, step_name, part_of_operand, expression_at, standing, expressions_bound, inline_environment}

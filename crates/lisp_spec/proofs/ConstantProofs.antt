@@ -5,11 +5,14 @@ use Rattle.clvm_spec.specs.ProperList.{elements}
 use Rattle.clvm_spec.specs.Outcomes.{Applied, Gives, Fails, TooWide}
 use Rattle.clvm_spec.specs.Operators.{is_nil}
 use Rattle.clvm_spec.specs.OperatorTable.{applied}
+use Rattle.clvm_spec.proofs.ListLaws.{elements_of_list}
 use Rattle.lisp_spec.specs.Forms.{Form, Place}
 use Rattle.lisp_spec.specs.Forms as form
-use Rattle.lisp_spec.specs.FormLists.{form_elements, single, is_symbol}
+use Rattle.lisp_read.specs.FormLists.{form_elements, single, is_symbol}
 use Rattle.lisp_spec.specs.FormParts.{Part, Expression, Operands, Template, OneTemplate}
-use Rattle.lisp_spec.specs.Heads.{Head, QuotesRest, QuotesOne, Templates, Unquotes, Chooses, Lists, Operates, Calls, head_of}
+use Rattle.lisp_spec.specs.declared.head.Head.{Head}
+use Rattle.lisp_spec.specs.declared.head.Head.TheVariants.{QuotesRest, QuotesOne, Templates, Unquotes, Chooses, Lists, Operates, Calls}
+use Rattle.lisp_spec.specs.Heads.{head_of}
 use Rattle.lisp_spec.specs.Modules.{Module, Constant, constant_named}
 use Rattle.lisp_spec.specs.Weights.{tree_weight, weight_limit}
 use Rattle.lisp_spec.specs.Environments.{Empty}
@@ -77,10 +80,6 @@ unfolding Fits
 result_fits place (Gives value cost pairs bytes) = refl
 result_fits place (Fails why) = λ e. failed
 result_fits place TooWide = λ e. wide
-
-elements_of_list : (values : List Tree) → elements (list_tree values) ≡ Some values
-elements_of_list [] = refl
-elements_of_list (value ∷ values) = ap (option_map (λ more. value ∷ more)) (elements_of_list values)
 
 operate_is : (n code : ℕ) (values : List Tree) → (code == 2) ≡ false → operate n code values ≡ operator_meaning (applied (code ∷ []) values)
 operate_is n code values e = ap (λ b. cond b (run_values n values) (operator_meaning (applied (code ∷ []) values))) e

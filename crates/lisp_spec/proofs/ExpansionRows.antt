@@ -2,8 +2,10 @@
 use Rattle.std.specs.Prelude.{◌≡◌, ℕ, zero, suc, refl, replicate, List, [], ◌∷◌, codes}
 use Rattle.clvm_spec.specs.Numbers.{shortest_atom, without_sign_bytes}
 use Rattle.clvm_spec.specs.Tokens.{token_of, word_token}
+use Rattle.clvm_spec.specs.OperatorTable.{operator_named}
 use Rattle.lisp_read.specs.Grammar.{forms_of}
 use Rattle.lisp_spec.specs.Forms.{Form, Atom, Symbol, Pair}
+use Rattle.lisp_spec.specs.Heads.{head_of}
 use Rattle.lisp_spec.specs.Macros.{Macro, TurnsSpent, BadMacro, TooLarge, turns_of_a_module}
 use Rattle.lisp_spec.specs.MacroBodies.{body_head, body_value}
 use Rattle.lisp_spec.specs.Expansion.{Expands, Breaks, expanded_part, expansion}
@@ -39,7 +41,7 @@ assertions :
     × expands asserting 0 "(assert B . A)" "(assert B . A)" 0
     × expands asserting 0 "assert" "assert" 0
     × expands asserting 0 "5" "5" 0
-unfolding asserting without_sign_bytes shortest_atom token_of word_token forms_of body_head body_value expanded_part
+unfolding asserting without_sign_bytes shortest_atom token_of word_token forms_of operator_named head_of body_head body_value expanded_part
 assertions = (refl, refl, refl, refl, refl, refl, refl, refl, refl, refl)
 
 -- A macro without end takes all turns, however many there are. A call takes one, and each expression of its body one.
@@ -50,7 +52,7 @@ ends :
     × breaks endless 3 "(again)" TurnsSpent 0 0
     × breaks endless 4 "(again)" TurnsSpent 0 0
     × breaks endless 100 "(list 1 (again))" TurnsSpent 8 0
-unfolding endless without_sign_bytes shortest_atom token_of word_token forms_of body_head body_value expanded_part
+unfolding endless without_sign_bytes shortest_atom token_of word_token forms_of operator_named head_of body_head body_value expanded_part
 ends = (refl, refl, refl, refl, refl, refl)
 
 -- Nothing is expanded in what is quoted, nor in a template but under `unquote`, and not in a template that is none. A
@@ -80,7 +82,7 @@ where_calls_are :
     × expands two 9 "(f (two) . x)" "(f 2 . x)" 7
     × expands two 9 "(if (two) (two) (f (two)))" "(if 2 2 (f 2))" 3
     × expands two 9 "(two (two) (two))" "2" 7
-unfolding two without_sign_bytes shortest_atom token_of word_token forms_of body_head body_value expanded_part
+unfolding two without_sign_bytes shortest_atom token_of word_token forms_of operator_named head_of body_head body_value expanded_part
 where_calls_are = (refl, refl, refl, refl, refl, refl, refl, refl, refl, refl, refl, refl, refl, refl, refl, refl, refl, refl, refl, refl, refl, refl, refl, refl)
 
 -- Calls are replaced from the outside in, before their operands are looked at, and what is given is expanded again.
@@ -97,7 +99,7 @@ outside_in :
     × expands wrapping 20 "(same (again (two)))" "(again 2)" 16
     × breaks wrapping 9 "(same)" BadMacro 0 7
     × breaks wrapping 9 "(list (same . 5) (same))" BadMacro 17 7
-unfolding wrapping without_sign_bytes shortest_atom token_of word_token forms_of body_head body_value expanded_part
+unfolding wrapping without_sign_bytes shortest_atom token_of word_token forms_of operator_named head_of body_head body_value expanded_part
 outside_in = (refl, refl, refl, refl, refl, refl, refl, refl, refl, refl, refl, refl)
 
 -- A template of a body keeps what stands in it, but each pair with the head `unquote`, at every level.
@@ -108,7 +110,7 @@ body_templates :
     × expands templates 9 "(rest 1 2)" "(+ 1 2)" 6
     × expands templates 9 "(plain)" "(q x y)" 7
     × breaks templates 9 "(m x)" BadMacro 0 6
-unfolding templates without_sign_bytes shortest_atom token_of word_token forms_of body_head body_value expanded_part
+unfolding templates without_sign_bytes shortest_atom token_of word_token forms_of operator_named head_of body_head body_value expanded_part
 body_templates = (refl, refl, refl, refl, refl, refl)
 
 -- A body is evaluated as far as it is met.
@@ -118,7 +120,7 @@ met :
     × breaks lazy 9 "(first)" BadMacro 0 7
     × expands lazy 9 "(branch x)" "x" 5
     × expands lazy 9 "(other x)" "x" 5
-unfolding lazy without_sign_bytes shortest_atom token_of word_token forms_of body_head body_value expanded_part
+unfolding lazy without_sign_bytes shortest_atom token_of word_token forms_of operator_named head_of body_head body_value expanded_part
 met = (refl, refl, refl, refl, refl)
 
 -- What the operators on forms give.
@@ -151,7 +153,7 @@ operators :
     × body_gives "(A)" "(q A B)" "(x)" 20 "(A B)" 19
     × body_gives "((A B) . C)" "(list C B A)" "((x y) z)" 20 "((z) y x)" 16
     × body_gives "(q)" "(list q (q . q))" "(x)" 20 "(x q)" 17
-unfolding without_sign_bytes shortest_atom token_of word_token forms_of body_head body_value expanded_part
+unfolding without_sign_bytes shortest_atom token_of word_token forms_of operator_named head_of body_head body_value expanded_part
 operators = (refl, refl, refl, refl, refl, refl, refl, refl, refl, refl, refl, refl, refl, refl, refl, refl, refl, refl, refl, refl, refl, refl, refl, refl, refl, refl, refl, refl)
 
 -- What no body can do: another head, a wrong count, a step into what is no pair.
@@ -183,7 +185,7 @@ bad_bodies :
     × body_stops "(A)" "(r A)" "(5)" 20 BadMacro 18
     × body_stops "(A B)" "B" "(x)" 20 BadMacro 19
     × body_stops "((A))" "A" "(x)" 20 BadMacro 19
-unfolding without_sign_bytes shortest_atom token_of word_token forms_of body_head body_value expanded_part
+unfolding without_sign_bytes shortest_atom token_of word_token forms_of operator_named head_of body_head body_value expanded_part
 bad_bodies = (refl, refl, refl, refl, refl, refl, refl, refl, refl, refl, refl, refl, refl, refl, refl, refl, refl, refl, refl, refl, refl, refl, refl, refl, refl, refl, refl)
 
 -- A turn is taken before the head and the count are looked at, and these before the operands, which are evaluated
@@ -214,13 +216,13 @@ turn_order :
     × body_stops "(A)" "5" "(x)" 0 TurnsSpent 0
     × body_stops "(A)" "(q . 5)" "(x)" 0 TurnsSpent 0
     × body_gives "(A)" "(list)" "(x)" 1 "()" 0
-unfolding without_sign_bytes shortest_atom token_of word_token forms_of body_head body_value expanded_part
+unfolding without_sign_bytes shortest_atom token_of word_token forms_of operator_named head_of body_head body_value expanded_part
 turn_order = (refl, refl, refl, refl, refl, refl, refl, refl, refl, refl, refl, refl, refl, refl, refl, refl, refl, refl, refl, refl, refl, refl, refl, refl, refl)
 
 -- The fault of a call that a macro made stands at the call that is written, and so do those of a call that stood in its
 -- operands.
 whole_text : breaks endless turns_of_a_module "(mod (X) (defmacro again A (list again)) (again))" TurnsSpent 41 0
-unfolding endless without_sign_bytes shortest_atom token_of word_token forms_of body_head body_value expanded_part
+unfolding endless without_sign_bytes shortest_atom token_of word_token forms_of operator_named head_of body_head body_value expanded_part
 whole_text = refl
 
 making : List Macro
@@ -229,7 +231,7 @@ making = defmacro "makes" "(A)" "(c (l A) (qq (k (unquote A))))" ∷ defmacro "o
 fault_places :
     breaks making 20 "(list (inner 1) (outer))" BadMacro 16 6
     × breaks making 20 "(list 7 (makes (inner)))" BadMacro 8 10
-unfolding making without_sign_bytes shortest_atom token_of word_token forms_of body_head body_value expanded_part
+unfolding making without_sign_bytes shortest_atom token_of word_token forms_of operator_named head_of body_head body_value expanded_part
 fault_places = (refl, refl)
 
 -- What stands in the operands or in the body keeps its place. What `c`, `list`, `=` and `l` make has the place at which
@@ -244,7 +246,7 @@ form_places :
     × (expansion making (placed "(list (outer (x)))") 20 ≡ Expands
     (list_at 0 (Symbol (at 1) (codes "list"))
     (Pair (at 6) (Atom (at 6) []) (list_at 6 (Pair (at 13) (Symbol (at 14) (codes "x")) (Atom (at 13) [])) (Pair (at 16) (Symbol (at 19) (codes "y")) (Atom (at 16) []))))) 10)
-unfolding making list_at without_sign_bytes shortest_atom token_of word_token forms_of body_head body_value expanded_part
+unfolding making list_at without_sign_bytes shortest_atom token_of word_token forms_of operator_named head_of body_head body_value expanded_part
 form_places = (refl, refl)
 
 -- What a body gives is nested no deeper than 1,024 lists and weighs no more than 262,144; a form that is both too deep
@@ -265,5 +267,5 @@ limits :
     × (expansion wrapping (call_of_same (heavy 262_143)) 9 ≡ Expands (heavy 262_143) 7)
     × (expansion wrapping (call_of_same (heavy 262_144)) 9 ≡ Breaks TooLarge (at 5) 7)
     × (expansion wrapping (call_of_same (Pair (at 4) (nested 1_025) (heavy 262_144))) 9 ≡ Breaks BadMacro (at 5) 7)
-unfolding wrapping nested heavy call_of_same list_at without_sign_bytes shortest_atom token_of word_token forms_of body_head body_value expanded_part
+unfolding wrapping nested heavy call_of_same list_at without_sign_bytes shortest_atom token_of word_token forms_of operator_named head_of body_head body_value expanded_part
 limits = (refl, refl, refl, refl, refl)

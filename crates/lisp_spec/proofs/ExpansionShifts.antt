@@ -1,10 +1,10 @@
 -- What an expansion gives with more turns, and where its faults stand.
 use Rattle.std.proofs.Common.{◌≡◌, ℕ, zero, suc, ◌+◌, ◌≤◌, Bool, true, false, cond, ltb, List, Option, Some, codes, refl, sym, ap, subst, arith}
 use Rattle.lisp_spec.specs.Forms.{Form, Atom, Symbol, Pair, Place}
-use Rattle.lisp_spec.specs.FormLists.{is_symbol}
+use Rattle.lisp_read.specs.FormLists.{is_symbol, is_empty}
 use Rattle.lisp_spec.specs.Weights.{form_weight, weight_limit}
 use Rattle.lisp_spec.specs.Macros.{Macro, MacroFault, TurnsSpent, BadMacro, TooLarge, nesting_limit}
-use Rattle.lisp_spec.specs.MacroBodies.{MacroCall, BodyValue, Gives, Stops, is_empty, body_value}
+use Rattle.lisp_spec.specs.MacroBodies.{MacroCall, BodyValue, Gives, Stops, body_value}
 use Rattle.lisp_spec.specs.FormParts.{Part, Expression, Operands, Template, OneTemplate}
 use Rattle.lisp_spec.specs.Expansion.{Expanded, Expands, Breaks, if_expanded, nesting, within_limits, limited, call_given, PairKind, Calls, Behind, Kept, kind_of, Again, written_at, pair_expanded, with_rest, with_both, expanded_by, again_within, expanded_part}
 use Rattle.lisp_spec.specs.ExpansionLaws.{TurnsFall, FaultsLeaveNoMore, MoreTurnsKeepForms, MoreTurnsKeepFaults, SpentTurnsLeaveNone, FaultsStandAtTheWrittenCall}

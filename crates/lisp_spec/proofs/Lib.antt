@@ -16,8 +16,6 @@ mod IncludedTextRows
 mod TextMeaningRows
 mod BuiltInRows
 mod FaultTextRows
-mod CurriedRows
-pub mod CurriedProofs
 pub mod MeaningProofs
 pub mod ModuleProofs
 pub mod ConstantProofs

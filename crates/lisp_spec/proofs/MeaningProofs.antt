@@ -12,8 +12,10 @@ use Rattle.clvm_spec.proofs.Steps.{done_law, failures_law, wide_law}
 use Rattle.lisp_spec.specs.Forms.{Form, Place}
 use Rattle.lisp_spec.specs.Forms as form
 use Rattle.lisp_spec.specs.Modules.{Module, Definition, definition_named, constant_named}
-use Rattle.lisp_spec.specs.Heads.{Head, QuotesRest, QuotesOne, Templates, Unquotes, Chooses, Lists, Operates, Calls, head_of}
-use Rattle.lisp_spec.specs.FormLists.{form_elements, single, is_symbol}
+use Rattle.lisp_spec.specs.declared.head.Head.{Head}
+use Rattle.lisp_spec.specs.declared.head.Head.TheVariants.{QuotesRest, QuotesOne, Templates, Unquotes, Chooses, Lists, Operates, Calls}
+use Rattle.lisp_spec.specs.Heads.{head_of}
+use Rattle.lisp_read.specs.FormLists.{form_elements, single, is_symbol}
 use Rattle.lisp_spec.specs.Quoted.{quoted_form, symbol_tree}
 use Rattle.lisp_spec.specs.Environments.{Environment, Binding, ToTree, ToNoStep, ToExpression, ToNothing, binding_of, function_environment, inline_environment}
 use Rattle.lisp_spec.specs.Meaning.{Meaning, Value, Failed, Wide, Out, Means, if_value, operator_meaning, run_meaning, all_counts, run_values, operate, constant_meaning, name_meaning, function_call, inline_call, chosen, quoted_operand, template_pair, Operands, call, by_head, expression_meaning, operand_values, choice_meaning, template_meaning, only_expression, only_template, meaning_within, meaning}

@@ -1,12 +1,13 @@
 -- What is expanded has no call any more.
 use Rattle.std.proofs.Common.{◌≡◌, ℕ, zero, suc, Bool, true, false, cond, ◌||◌, List, [], ◌∷◌, Option, Some, None, option_map, is_some, codes, refl, sym, ap, ◌∙◌, subst}
 use Rattle.lisp_spec.specs.Forms.{Form, Atom, Symbol, Pair, Place}
-use Rattle.lisp_spec.specs.FormLists.{form_elements, is_symbol}
-use Rattle.lisp_spec.specs.Heads.{is_q, is_quote, is_qq}
+use Rattle.lisp_read.specs.FormLists.{form_elements, is_symbol, is_empty}
+use Rattle.lisp_spec.specs.declared.head.Head.{Head}
+use Rattle.lisp_spec.specs.declared.head.Head.TheVariants.{QuotesRest, QuotesOne, Templates, Unquotes, Chooses, Lists, Operates, Calls as CallsName}
+use Rattle.lisp_spec.specs.Heads.{head_of}
 use Rattle.lisp_spec.specs.Macros.{Macro, macro_named}
-use Rattle.lisp_spec.specs.MacroBodies.{is_empty}
 use Rattle.lisp_spec.specs.FormParts.{Part, Expression, Operands, Template, OneTemplate}
-use Rattle.lisp_spec.specs.Expansion.{Expanded, Expands, Breaks, if_expanded, call_given, PairKind, Calls, Behind, Kept, call_kind, kind_of, Again, written_at, call_expanded, pair_expanded, with_rest, with_both, expanded_by, again_within, expanded_part}
+use Rattle.lisp_spec.specs.Expansion.{Expanded, Expands, Breaks, if_expanded, call_given, PairKind, Calls, Behind, Kept, call_kind, headed_kind, kind_of, Again, written_at, call_expanded, pair_expanded, with_rest, with_both, expanded_by, again_within, expanded_part}
 use Rattle.lisp_spec.specs.ExpansionLaws.{WhatIsExpandedIsSettled, WithoutMacrosAllIsSettled}
 
 -- ---- forms without calls
@@ -64,15 +65,23 @@ module _ (macros : List Macro) (again : Again) where
 
 -- ---- without macros
 
-named_has_none : (b c proper : Bool) (free : Part → Type 0) → ((part : Part) → free part) → KindHasNoCall (cond b Kept (cond c (Behind OneTemplate) (call_kind None proper))) free
-named_has_none true c proper free h = nothing
-named_has_none false true proper free h = h OneTemplate
-named_has_none false false true free h = h Operands
-named_has_none false false false free h = h Operands
+call_has_none : (proper : Bool) (free : Part → Type 0) → ((part : Part) → free part) → KindHasNoCall (call_kind None proper) free
+call_has_none true free h = h Operands
+call_has_none false free h = h Operands
+
+headed_has_none : (head : Head) (proper : Bool) (free : Part → Type 0) → ((part : Part) → free part) → KindHasNoCall (headed_kind head (call_kind None proper)) free
+headed_has_none QuotesRest proper free h = nothing
+headed_has_none QuotesOne proper free h = nothing
+headed_has_none Templates proper free h = h OneTemplate
+headed_has_none Unquotes proper free h = call_has_none proper free h
+headed_has_none Chooses proper free h = call_has_none proper free h
+headed_has_none Lists proper free h = call_has_none proper free h
+headed_has_none (Operates code) proper free h = call_has_none proper free h
+headed_has_none CallsName proper free h = call_has_none proper free h
 
 kind_has_none : (head rest : Form) (free : Part → Type 0) → ((part : Part) → free part) → KindHasNoCall (kind_of [] head rest) free
 kind_has_none (Atom at bytes) rest free h = h Operands
-kind_has_none (Symbol at name) rest free h = named_has_none (is_q name || is_quote name) (is_qq name) (is_some (form_elements rest)) free h
+kind_has_none (Symbol at name) rest free h = headed_has_none (head_of name) (is_some (form_elements rest)) free h
 kind_has_none (Pair at first more) rest free h = h Operands
 
 either : (b : Bool) (A B : Type 0) → A → B → Either b A B
@@ -155,7 +164,7 @@ cond_other false v w h k = k
 -- What follows a head settles what the pair is, as far as it is a proper list.
 kind_same : (macros : List Macro) (head rest behind : Form) → proper behind ≡ proper rest → kind_of macros head behind ≡ kind_of macros head rest
 kind_same macros (Atom at bytes) rest behind e = refl
-kind_same macros (Symbol at name) rest behind e = ap (λ b. cond (is_q name || is_quote name) Kept (cond (is_qq name) (Behind OneTemplate) (call_kind (macro_named name macros) b))) e
+kind_same macros (Symbol at name) rest behind e = ap (λ b. headed_kind (head_of name) (call_kind (macro_named name macros) b)) e
 kind_same macros (Pair at first more) rest behind e = refl
 
 abbrev SpineKind : PairKind → Type 0
@@ -163,17 +172,25 @@ SpineKind (Calls macro) = Nothing
 SpineKind (Behind part) = IsSpine part
 SpineKind Kept = Nothing
 
-named_spine : (b c : Bool) (macro : Option Macro) (d : Bool) → SpineKind (cond b Kept (cond c (Behind OneTemplate) (call_kind macro d)))
-named_spine true c macro d = nothing
-named_spine false true macro d = nothing
-named_spine false false None true = nothing
-named_spine false false None false = nothing
-named_spine false false (Some macro) true = nothing
-named_spine false false (Some macro) false = nothing
+call_spine : (macro : Option Macro) (d : Bool) → SpineKind (call_kind macro d)
+call_spine None true = nothing
+call_spine None false = nothing
+call_spine (Some macro) true = nothing
+call_spine (Some macro) false = nothing
+
+headed_spine : (head : Head) (kind : PairKind) → SpineKind kind → SpineKind (headed_kind head kind)
+headed_spine QuotesRest kind h = nothing
+headed_spine QuotesOne kind h = nothing
+headed_spine Templates kind h = nothing
+headed_spine Unquotes kind h = h
+headed_spine Chooses kind h = h
+headed_spine Lists kind h = h
+headed_spine (Operates code) kind h = h
+headed_spine CallsName kind h = h
 
 kind_spine : (macros : List Macro) (head rest : Form) → SpineKind (kind_of macros head rest)
 kind_spine macros (Atom at bytes) rest = nothing
-kind_spine macros (Symbol at name) rest = named_spine (is_q name || is_quote name) (is_qq name) (macro_named name macros) (proper rest)
+kind_spine macros (Symbol at name) rest = headed_spine (head_of name) (call_kind (macro_named name macros) (proper rest)) (call_spine (macro_named name macros) (proper rest))
 kind_spine macros (Pair at first more) rest = nothing
 
 behind_frees : (macros : List Macro) (at : Place) (head rest : Form) (part : Part) (v : Expanded) → kind_of macros head rest ≡ Behind part → Frees macros part v → KeepsSpine rest v → Frees macros Expression (with_rest at head v)

@@ -9,8 +9,10 @@ use Rattle.clvm_spec.specs.OperatorTable.{applied}
 use Rattle.lisp_spec.specs.Forms.{Form, Place}
 use Rattle.lisp_spec.specs.Forms as form
 use Rattle.lisp_spec.specs.Modules.{Constant, constant_named}
-use Rattle.lisp_spec.specs.FormLists.{is_symbol, single}
-use Rattle.lisp_spec.specs.Heads.{Head, QuotesRest, QuotesOne, Templates, Unquotes, Chooses, Lists, Operates, Calls, head_of}
+use Rattle.lisp_read.specs.FormLists.{is_symbol, single}
+use Rattle.lisp_spec.specs.declared.head.Head.{Head}
+use Rattle.lisp_spec.specs.declared.head.Head.TheVariants.{QuotesRest, QuotesOne, Templates, Unquotes, Chooses, Lists, Operates, Calls}
+use Rattle.lisp_spec.specs.Heads.{head_of}
 use Rattle.lisp_spec.specs.Quoted.{quoted_form, symbol_tree}
 use Rattle.lisp_spec.specs.Weights.{tree_weight, weight_limit}
 use Rattle.lisp_spec.specs.ModuleFaults.{ConstantFails, TooLarge, fault, Judged, ◌>>=◌}

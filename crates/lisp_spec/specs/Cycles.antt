@@ -4,8 +4,10 @@ use Rattle.std.specs.List.{list_any}
 use Rattle.lisp_spec.specs.Forms.{Form}
 use Rattle.lisp_spec.specs.Forms as form
 use Rattle.lisp_spec.specs.Modules.{Definition, definition_named}
-use Rattle.lisp_spec.specs.FormLists.{is_symbol}
-use Rattle.lisp_spec.specs.Heads.{Head, QuotesRest, QuotesOne, Templates, Unquotes, Chooses, Lists, Operates, Calls, head_of}
+use Rattle.lisp_read.specs.FormLists.{is_symbol}
+use Rattle.lisp_spec.specs.declared.head.Head.{Head}
+use Rattle.lisp_spec.specs.declared.head.Head.TheVariants.{QuotesRest, QuotesOne, Templates, Unquotes, Chooses, Lists, Operates, Calls}
+use Rattle.lisp_spec.specs.Heads.{head_of}
 use Rattle.lisp_spec.specs.FormParts.{Part, Expression, Operands, Template, OneTemplate}
 
 -- the names that stand as heads of calls in what is looked at as this part

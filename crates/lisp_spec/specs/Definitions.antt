@@ -5,7 +5,7 @@ use Rattle.std.specs.List.{list_all}
 use Rattle.lisp_spec.specs.Forms.{Form, Place, place_of_form}
 use Rattle.lisp_spec.specs.Forms as form
 use Rattle.lisp_spec.specs.Modules.{Definition}
-use Rattle.lisp_spec.specs.FormLists.{form_elements, is_symbol}
+use Rattle.lisp_read.specs.FormLists.{form_elements, is_symbol}
 use Rattle.lisp_spec.specs.Parameters.{is_parameter_tree}
 
 -- what a definition makes

@@ -3,7 +3,7 @@
 use Rattle.std.specs.Prelude.{ℕ, List, [], ◌∷◌, Option, Some, None, bytes_eq, codes, if◌then◌else◌}
 use Rattle.clvm_spec.specs.Tree.{Tree}
 use Rattle.lisp_spec.specs.Forms.{Form, Place}
-use Rattle.lisp_spec.specs.FormLists.{headed}
+use Rattle.lisp_read.specs.FormLists.{headed}
 use Rattle.lisp_spec.specs.Parameters.{Side, ToFirst, ToRest, Parameter, parameters, tree_at}
 
 pub data Environment : Type 0 where

@@ -2,12 +2,14 @@
 -- Chialisp reference; the turns, the limits, and which fault stands where, are this project's own.
 use Rattle.std.specs.Prelude.{ℕ, zero, suc, Bool, true, ◌||◌, List, Option, Some, None, is_some, unwrap_or, max, codes, nat_lt, if◌then◌else◌}
 use Rattle.lisp_spec.specs.Forms.{Form, Atom, Symbol, Pair, Place}
-use Rattle.lisp_spec.specs.FormLists.{form_elements, is_symbol}
+use Rattle.lisp_read.specs.FormLists.{form_elements, is_symbol, is_empty}
 use Rattle.lisp_spec.specs.FormParts.{Part, Expression, Operands, Template, OneTemplate}
-use Rattle.lisp_spec.specs.Heads.{is_q, is_quote, is_qq}
+use Rattle.lisp_spec.specs.declared.head.Head.{Head}
+use Rattle.lisp_spec.specs.declared.head.Head.TheVariants.{QuotesRest, QuotesOne, Templates}
+use Rattle.lisp_spec.specs.Heads.{head_of}
 use Rattle.lisp_spec.specs.Weights.{form_weight, weight_limit}
 use Rattle.lisp_spec.specs.Macros.{Macro, macro_named, MacroFault, TurnsSpent, BadMacro, TooLarge, nesting_limit}
-use Rattle.lisp_spec.specs.MacroBodies.{BodyValue, Gives, Stops, is_empty, body_value}
+use Rattle.lisp_spec.specs.MacroBodies.{BodyValue, Gives, Stops, body_value}
 
 -- a form without calls of macros, or the first fault and its place; each with the turns that are left
 pub data Expanded : Type 0 where
@@ -58,11 +60,15 @@ abbrev pub call_kind : Option Macro → Bool → PairKind
 call_kind (Some macro) true = Calls macro
 call_kind macro proper = Behind Operands
 
+-- A tree that is quoted is kept, and every other head that isn't `qq` may be a macro's name.
+abbrev pub headed_kind : Head → PairKind → PairKind
+headed_kind QuotesRest named = Kept
+headed_kind QuotesOne named = Kept
+headed_kind Templates named = Behind OneTemplate
+headed_kind other named = named
+
 abbrev pub kind_named : List Macro → List ℕ → Form → PairKind
-kind_named macros name rest =
-    if is_q name || is_quote name then Kept
-    else if is_qq name then Behind OneTemplate
-    else call_kind (macro_named name macros) (is_some (form_elements rest))
+kind_named macros name rest = headed_kind (head_of name) (call_kind (macro_named name macros) (is_some (form_elements rest)))
 
 -- A head that is no symbol is kept, and what follows it are operands.
 abbrev pub kind_of : List Macro → Form → Form → PairKind

@@ -3,9 +3,12 @@ use Rattle.std.specs.Prelude.{ℕ, zero, suc, ◌+◌, ◌*◌, ◌/◌, List, [
 use Rattle.clvm_spec.specs.Tree.{Tree, Atom}
 use Rattle.lisp_spec.specs.Forms.{Form}
 use Rattle.lisp_spec.specs.Forms as form
+use Rattle.lisp_spec.specs.declared.limits.TheConstants.{UNIT_BYTES, FUNCTIONS_A_BYTE}
 use Rattle.lisp_spec.specs.Modules.{Definition, Constant, Module, definition_named, constant_named}
-use Rattle.lisp_spec.specs.FormLists.{is_symbol, single}
-use Rattle.lisp_spec.specs.Heads.{Head, QuotesRest, QuotesOne, Templates, Unquotes, Chooses, Lists, Operates, Calls, head_of}
+use Rattle.lisp_read.specs.FormLists.{is_symbol, single}
+use Rattle.lisp_spec.specs.declared.head.Head.{Head}
+use Rattle.lisp_spec.specs.declared.head.Head.TheVariants.{QuotesRest, QuotesOne, Templates, Unquotes, Chooses, Lists, Operates, Calls}
+use Rattle.lisp_spec.specs.Heads.{head_of}
 use Rattle.lisp_spec.specs.Parameters.{Side, ToFirst, ToRest, path_of}
 use Rattle.lisp_spec.specs.Quoted.{quoted_form, symbol_tree}
 use Rattle.lisp_spec.specs.Weights.{tree_weight}
@@ -117,6 +120,7 @@ definition_weight m d = expression_weight m d.params d.body
 abbrev pub code_weight : Module → ℕ
 code_weight m = sum_by (definition_weight m) m.functions + expression_weight m m.params m.body
 
--- 64, and one more for each 8 functions, for each unit of the weight of functions and body, and for one more unit.
+-- Some bytes, and one more for each few functions, for each unit of the weight of functions and body, and for one more
+-- unit.
 abbrev pub module_bound : Module → ℕ
-module_bound m = (64 + length m.functions / 8) * (code_weight m + 1)
+module_bound m = (UNIT_BYTES + length m.functions / FUNCTIONS_A_BYTE) * (code_weight m + 1)

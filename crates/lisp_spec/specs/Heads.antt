@@ -1,25 +1,9 @@
--- The names that the language itself has. Source: Chialisp reference, over the operators of the CLVM reference.
-use Rattle.std.specs.Prelude.{ℕ, Bool, ◌||◌, List, Option, Some, None, is_some, bytes_eq, codes, if◌then◌else◌}
+-- The names that the language itself has: what a symbol is as the head of an expression, and which names no definition may
+-- have. Source: Chialisp reference, over the operators of the CLVM reference.
+use Rattle.std.specs.Prelude.{ℕ, Bool, true, false, ◌||◌, List, Option, Some, None, bytes_eq, codes, if◌then◌else◌}
 use Rattle.clvm_spec.specs.OperatorTable.{Operator, operator_named}
-
--- what a symbol is as the head of an expression
-pub data Head : Type 0 where
-  -- `q`: what follows the head is a tree.
-  QuotesRest : Head
-  -- `quote`: its one operand is a tree.
-  QuotesOne : Head
-  -- `qq`: its one operand is a template.
-  Templates : Head
-  -- `unquote`: its one operand is an expression, in a template.
-  Unquotes : Head
-  -- `if`: one of two expressions is evaluated.
-  Chooses : Head
-  -- `list`: the list of its operands
-  Lists : Head
-  -- an operator other than `q`, by its code
-  Operates : (code : ℕ) → Head
-  -- every other symbol: a function, an inline, or nothing that is bound
-  Calls : Head
+use Rattle.lisp_spec.specs.declared.head.Head.{Head}
+use Rattle.lisp_spec.specs.declared.head.Head.TheVariants.{QuotesRest, QuotesOne, Templates, Unquotes, Chooses, Lists, Operates, Calls}
 
 abbrev pub operator_head : Option Operator → Head
 operator_head None = Calls
@@ -56,10 +40,11 @@ head_of name =
     else if is_list name then Lists
     else operator_head (operator_named name)
 
--- the words of the language that are no operators
-abbrev pub is_word : List ℕ → Bool
-is_word name = is_if name || is_list name || is_qq name || is_unquote name || is_quote name || is_mod name
+-- whether a head is the language's own
+abbrev pub is_own : Head → Bool
+is_own Calls = false
+is_own other = true
 
--- A name that no function, inline, constant or macro may have: that of an operator, or a word of the language.
+-- A name that no function, inline, constant or macro may have: that of a head of the language, or `mod`.
 unfoldable pub is_reserved : List ℕ → Bool
-is_reserved name = is_some (operator_named name) || is_word name
+is_reserved name = is_own (head_of name) || is_mod name

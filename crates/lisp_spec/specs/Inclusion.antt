@@ -2,10 +2,12 @@
 -- Source: Chialisp reference; the limits and the faults are this project's own.
 use Rattle.std.specs.Prelude.{ℕ, zero, suc, List, [], ◌∷◌, ◌++◌, length, take, get_or, Option, Some, None, Ok, Err, ok_or, nat_lt, nat_le, codes, ◌&&◌, if◌then◌else◌}
 use Rattle.std.specs.Option.{option_or}
+use Rattle.clvm_spec.specs.declared.limits.TheConstants.{MOST_SPELLED}
+use Rattle.lisp_spec.specs.declared.limits.TheConstants.{MOST_TEXTS}
 use Rattle.lisp_read.specs.Grammar.{Read, Reads, forms_of}
 use Rattle.lisp_read.specs.Grammar as grammar
 use Rattle.lisp_spec.specs.Forms.{Form, Place, place_of_form}
-use Rattle.lisp_spec.specs.FormLists.{form_elements, the_only, is_symbol}
+use Rattle.lisp_read.specs.FormLists.{form_elements, the_only, is_symbol}
 use Rattle.lisp_spec.specs.Heads.{is_reserved}
 use Rattle.lisp_spec.specs.Parameters.{Parameter, parameters, is_parameter_tree}
 use Rattle.lisp_spec.specs.BuiltIns.{built_in}
@@ -79,11 +81,11 @@ Texts = List ℕ → Option (List ℕ)
 
 -- the most bytes of a library's text
 abbrev pub longest_text : ℕ
-longest_text = 67_108_864
+longest_text = MOST_SPELLED
 
 -- the most texts that a module includes
 abbrev pub most_texts : ℕ
-most_texts = 4_294_967_295
+most_texts = MOST_TEXTS
 
 abbrev pub if_short : Option (List ℕ) → Option (List ℕ)
 if_short None = None

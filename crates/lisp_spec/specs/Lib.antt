@@ -1,7 +1,6 @@
 pub mod Forms
 pub mod Modules
 pub mod Heads
-pub mod FormLists
 pub mod FormParts
 pub mod Parameters
 pub mod Quoted
@@ -13,7 +12,6 @@ pub mod ExpansionLaws
 pub mod Environments
 pub mod Meaning
 pub mod Agreement
-pub mod Curried
 pub mod BuiltIns
 pub mod ModuleFaults
 pub mod Definitions
@@ -24,7 +22,6 @@ pub mod Cycles
 pub mod ExpressionWeights
 pub mod ModuleOf
 pub mod FaultTexts
-pub mod CurriedLaws
 pub mod MeaningLaws
 pub mod ModuleLaws
 pub mod ConstantLaws

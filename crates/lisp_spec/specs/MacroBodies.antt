@@ -2,7 +2,7 @@
 -- forms, the turns, the faults and their order, and the places of what is made, are this project's own.
 use Rattle.std.specs.Prelude.{ℕ, zero, suc, ◌==◌, Bool, true, false, List, [], ◌∷◌, length, Option, Some, None, find, bytes_eq, codes, if◌then◌else◌}
 use Rattle.lisp_spec.specs.Forms.{Form, Atom, Symbol, Pair, Place, is_pair}
-use Rattle.lisp_spec.specs.FormLists.{form_elements, form_list, is_symbol}
+use Rattle.lisp_read.specs.FormLists.{form_elements, form_list, is_empty, is_symbol}
 use Rattle.lisp_spec.specs.Heads.{is_q, is_qq, is_if}
 use Rattle.lisp_spec.specs.Parameters.{Side, ToFirst, ToRest, path_of}
 use Rattle.lisp_spec.specs.Macros.{MacroFault, TurnsSpent, BadMacro}
@@ -32,12 +32,6 @@ parameter_or symbol (Some path) operands = form_at path operands
 -- ---- operators on forms
 
 -- The empty atom is false, every other form true.
-abbrev pub is_empty : Form → Bool
-is_empty (Atom at []) = true
-is_empty (Atom at (b ∷ bytes)) = false
-is_empty (Symbol at name) = false
-is_empty (Pair at first rest) = false
-
 abbrev pub chosen : Form → Form → Form → Form
 chosen condition second third = if is_empty condition then third else second
 

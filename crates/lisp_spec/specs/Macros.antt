@@ -2,6 +2,7 @@
 -- project's own.
 use Rattle.std.specs.Prelude.{ℕ, List, Option, find, bytes_eq}
 use Rattle.lisp_spec.specs.Forms.{Form}
+use Rattle.lisp_spec.specs.declared.limits.TheConstants.{MOST_TURNS, MOST_NESTING}
 
 -- a macro: its parameters, a tree of names, and the form that its calls evaluate
 pub record Macro : Type 0 where
@@ -22,8 +23,8 @@ pub data MacroFault : Type 0 where
 
 -- Each macro call and each evaluated expression of a body takes a turn. A module has this many for all its calls.
 abbrev pub turns_of_a_module : ℕ
-turns_of_a_module = 10_000
+turns_of_a_module = MOST_TURNS
 
 -- the most lists in one another in what a body gives
 abbrev pub nesting_limit : ℕ
-nesting_limit = 1_024
+nesting_limit = MOST_NESTING

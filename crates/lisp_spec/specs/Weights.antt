@@ -4,6 +4,7 @@ use Rattle.clvm_spec.specs.Tree.{Tree}
 use Rattle.clvm_spec.specs.Tree as tree
 use Rattle.lisp_spec.specs.Forms.{Form}
 use Rattle.lisp_spec.specs.Forms as form
+use Rattle.lisp_spec.specs.declared.limits.TheConstants.{MOST_WEIGHT}
 
 -- 1 and its length for an atom, 1 and both weights for a pair
 abbrev pub tree_weight : Tree → ℕ
@@ -18,4 +19,4 @@ form_weight (form.Pair at first rest) = 1 + form_weight first + form_weight rest
 
 -- the most that a tree or a form may weigh where the language says so
 abbrev pub weight_limit : ℕ
-weight_limit = 262_144
+weight_limit = MOST_WEIGHT

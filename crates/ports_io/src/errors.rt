@@ -1,8 +1,8 @@
-// The errors of the outside.
+//! The errors of the outside.
 ghost use Rattle.std.specs.Prelude.{◌≡◌};
 ghost use Rattle.ports_io.specs.declared.errors.LibraryError.TheVariants.{OutOfMemory};
 
-use std::alloc::{AllocError, AllocFailed};
+use std::alloc::AllocError;
 
 /// A source or a sink failed.
 #[derive(Clone, Copy, Debug, PartialEq, Eq)]
@@ -16,26 +16,10 @@ pub enum LibraryError {
     OutOfMemory,
 }
 
-/// No memory was found.
-#[derive(Clone, Copy, Debug, PartialEq, Eq)]
-pub struct OutOfMemory;
-
 impl From<AllocError> for LibraryError {
     ghost from_gives = { λ _ error. error ≡ OutOfMemory };
 
     fn from(_: AllocError) -> LibraryError {
         LibraryError::OutOfMemory
-    }
-}
-
-impl From<AllocError> for OutOfMemory {
-    fn from(_: AllocError) -> OutOfMemory {
-        OutOfMemory
-    }
-}
-
-impl<T: Drop> From<AllocFailed<T>> for OutOfMemory {
-    fn from(_: AllocFailed<T>) -> OutOfMemory {
-        OutOfMemory
     }
 }

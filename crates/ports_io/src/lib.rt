@@ -13,10 +13,12 @@ mod source;
 #[cfg(test)]
 mod tests;
 
-pub use errors::{Failed, LibraryError, OutOfMemory};
+pub use errors::{Failed, LibraryError};
 pub use gate::{Gate, OpenGate, Point};
 pub use library::Library;
 pub use memory::{MemoryLibrary, MemorySink, MemorySource};
 pub use real::{FolderLibrary, InputSource, OutputSink};
 pub use sink::{Sink, write_all};
 pub use source::{InputFault, Source, read_to_limit};
+/// The error of a call that fails only for want of memory.
+pub use std::alloc::AllocError as OutOfMemory;

@@ -1,8 +1,8 @@
--- What `curry` writes. This project's own.
+-- What `curry` writes. Source: this project's own.
 use Rattle.std.specs.Prelude.{ℕ, List, ◌++◌}
 use Rattle.clvm_spec.specs.Tree.{Tree}
 use Rattle.clvm_spec.specs.Lines.{line_feed}
-use Rattle.lisp_spec.specs.Curried.{curried}
+use Rattle.clvm_spec.specs.Currying.{curried}
 use Rattle.tool_eval.specs.Outcomes.{tree_words}
 use Rattle.tool_eval.specs.declared.Style.TheVariants.{Hexadecimal}
 

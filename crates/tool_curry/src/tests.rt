@@ -1,7 +1,7 @@
 ghost use Rattle.std.specs.Prelude.{◌≤◌, ◌^◌, length};
 
-use crate::{Fault, InputFault, curry_input};
-use clvm_input::{Words, read_words};
+use crate::Curry;
+use clvm_input::{line_for, read_words};
 use std::alloc::Global;
 use std::test::Fail;
 
@@ -9,7 +9,13 @@ use std::test::Fail;
 fn line(alloc: Global, program: &str, arguments: &[&str]) -> Result<String, Fail> {
     let input = Vec::from_slice(alloc, program.as_bytes())?;
     match read_words(alloc, arguments)? {
-        Some(words) if input.len() <= 1_000 => Ok(curry_input(alloc, input, &words)?),
+        Some(arguments) if input.len() <= 1_000 => Ok(line_for(
+            alloc,
+            &Curry {
+                arguments: &arguments,
+            },
+            input,
+        )?),
         _ => Ok(String::new(alloc)),
     }
 }

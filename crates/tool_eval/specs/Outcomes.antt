@@ -1,10 +1,11 @@
--- What a run comes to in words. This project's own.
+-- What a run comes to in words. Source: this project's own.
 use Rattle.std.specs.Prelude.{ℕ, List, ◌++◌, length, nat_le, if◌then◌else◌, codes}
 use Rattle.std.specs.Fmt.{decimal}
 use Rattle.hex.specs.Hex.{encode_lower}
 use Rattle.clvm_spec.specs.declared.fuel.Fuel.{Fuel}
 use Rattle.clvm_spec.specs.declared.fuel.Which.{Which}
 use Rattle.clvm_spec.specs.declared.fuel.Which.TheVariants as which
+use Rattle.clvm_spec.specs.declared.limits.TheConstants.{MOST_WRITTEN}
 use Rattle.clvm_spec.specs.Tree.{Tree}
 use Rattle.clvm_spec.specs.Spelling.{spelling}
 use Rattle.clvm_spec.specs.Text.{printed}
@@ -21,7 +22,7 @@ styled Text tree = printed tree
 
 -- A tree whose spelling has more than 33,554,432 bytes isn't written.
 abbrev pub tree_words : Style → Tree → List ℕ
-tree_words style tree = if nat_le (length (spelling tree)) 33_554_432 then styled style tree else codes "too-long"
+tree_words style tree = if nat_le (length (spelling tree)) MOST_WRITTEN then styled style tree else codes "too-long"
 
 abbrev pub why_words : Style → Why → List ℕ
 why_words style NoStep = codes "path"

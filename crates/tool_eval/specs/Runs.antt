@@ -1,4 +1,4 @@
--- A run's result, by the nodes that it has. This project's own.
+-- A run's result, by the nodes that it has. Source: this project's own.
 use Rattle.std.specs.Prelude.{List, Result, Ok, Err}
 use Rattle.clvm_spec.specs.declared.fuel.Fuel.{Fuel}
 use Rattle.clvm_spec.specs.Tree.{Tree}

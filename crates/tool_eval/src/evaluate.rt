@@ -1,27 +1,36 @@
-ghost use Rattle.std.specs.Prelude.{◌≡◌, ◌+◌, ◌<◌, ◌≤◌, ◌^◌, Some, IfOk, IsSome, length, string_bytes};
-ghost use Rattle.clvm_spec.specs.Tree.{Tree};
-ghost use Rattle.clvm_spec.specs.Reading.{tree_of};
+//! The command `eval`.
+
+ghost use Rattle.std.specs.Prelude.{◌≡◌, ◌≤◌, ◌^◌, IfOk, length, string_bytes};
+ghost use Rattle.clvm_spec.specs.Spelled.{spelled_tree};
 ghost use Rattle.clvm_spec.specs.Evaluation.{fuel_of};
-ghost use Rattle.clvm_tree.specs.Nodes.{tree_at, IsKnown, Grows};
+ghost use Rattle.clvm_tree.specs.Nodes.{tree_at, IsKnown};
 ghost use Rattle.tool_eval.specs.Outcomes.{run_line};
-ghost use Rattle.tool_eval.specs.Answers.{IsEvaluated};
 
 use crate::Style;
 use crate::words::write_run;
 use clvm_eval::run;
-use clvm_input::{InputFault, read_input};
+use clvm_input::{Tool, Word};
 use clvm_ops::CoreOps;
-use clvm_tree::{Fuel, Node, OutOfMemory, ReadFault, Trees};
+use clvm_spec::limits::{MOST_BYTES, MOST_DEPTH, MOST_PAIRS};
+use clvm_tree::{Fuel, Node, OutOfMemory, Trees};
 use std::alloc::Global;
+
+/// How a program runs on an environment with this cost, in words.
+#[derive(Clone, Copy, Debug)]
+pub struct Eval<'a> {
+    pub env: &'a Word,
+    pub style: Style,
+    pub cost: u64,
+}
 
 fn fuel_of(cost: u64) -> Fuel
     ensures { result ≡ fuel_of cost }
 {
     Fuel {
         cost,
-        pairs: 16_777_216,
-        bytes: 134_217_728,
-        depth: 1_048_576,
+        pairs: MOST_PAIRS,
+        bytes: MOST_BYTES,
+        depth: MOST_DEPTH,
     }
 }
 
@@ -46,45 +55,11 @@ fn run_line(
     Ok(line)
 }
 
-// The tree that the bytes of an environment spell.
-fn read_environment(alloc: Global, trees: &mut Trees, env: &[u8]) -> Result<Node, OutOfMemory>
-    requires spelled { IsSome (tree_of env.now) }
-    requires short { length env.now ≤ 2 ^ 26 }
-    requires fits { length trees.old + length env.now < 2 ^ 31 }
-    ensures grows { Grows trees.old trees.new }
-    ensures few { length trees.new ≤ length trees.old + length env.now }
-    ensures found { IfOk result (λ node. tree_of env.now ≡ Some (tree_at trees.new node.0)) }
-    ensures known { IfOk result (λ node. IsKnown trees.new node.0) }
-{
-    match trees.read_whole(alloc, env) {
-        Ok(node) => Ok(node),
-        Err(fault) => match fault {
-            ReadFault::OutOfMemory => Err(OutOfMemory),
-            _ => unreachable!(),
-        },
-    }
-}
+impl<'a> Tool for Eval<'a> {
+    ghost line = { λ eval program. run_line eval.style eval.cost program (spelled_tree eval.env.now) };
 
-/// Runs the program that an input spells on an environment, which is the bytes of one spelled tree, with this cost, and
-/// tells how the run comes out, as a line.
-///
-/// # Errors
-///
-/// The input's first fault, or want of memory.
-pub fn eval(
-    alloc: Global,
-    input: Vec<u8>,
-    env: &[u8],
-    style: Style,
-    cost: u64,
-) -> Result<String, InputFault>
-    requires short { length input.items ≤ 2 ^ 26 }
-    requires env_short { length env.now ≤ 2 ^ 26 }
-    requires env_spelled { IsSome (tree_of env.now) }
-    ensures { (tree : Tree) → tree_of env.now ≡ Some tree → IsEvaluated style cost tree input.items result }
-{
-    let mut trees = Trees::new(alloc);
-    let program = read_input(alloc, &mut trees, input)?;
-    let env = read_environment(alloc, &mut trees, env)?;
-    Ok(run_line(alloc, &mut trees, program, env, style, cost)?)
+    fn line(&self, alloc: Global, trees: &mut Trees, program: Node) -> Result<String, OutOfMemory> {
+        let env = self.env.read(alloc, trees)?;
+        run_line(alloc, trees, program, env, self.style, self.cost)
+    }
 }

@@ -1,4 +1,4 @@
-//! The command `eval`: the run of a program that an input spells, in words.
+//! The command `eval`: the run of a program, in words.
 #![tactic(auto)]
 
 mod evaluate;
@@ -6,8 +6,8 @@ mod evaluate;
 mod tests;
 mod words;
 
-pub use clvm_input::{Fault, InputFault};
-pub use evaluate::eval;
+pub use evaluate::Eval;
+pub use words::write_tree;
 
 /// How trees are written: as the hexadecimal of their spelling, or as CLVM text.
 #[derive(Clone, Copy, Debug, PartialEq, Eq)]

@@ -2,8 +2,8 @@ ghost use Rattle.std.specs.Prelude.{◌≤◌, ◌^◌, length};
 
 mod fuel;
 
-use crate::{Style, eval};
-use clvm_tree::Trees;
+use crate::{Eval, Style};
+use clvm_input::{line_for, read_word};
 use std::alloc::Global;
 use std::test::Fail;
 
@@ -11,13 +11,14 @@ const COST: u64 = 11_000_000_000;
 
 // The line of a program's run on an environment, both in hexadecimal.
 fn line(alloc: Global, program: &str, env: &str, style: Style, cost: u64) -> Result<String, Fail> {
-    let env = hex::decode(alloc, env)?;
-    if program.len() > 1_000 || env.len() > 1_000 {
-        return Ok(String::new(alloc));
+    let input = Vec::from_slice(alloc, program.as_bytes())?;
+    match read_word(alloc, env.as_bytes())? {
+        Some(env) if input.len() <= 1_000 => {
+            let env = &env;
+            Ok(line_for(alloc, &Eval { env, style, cost }, input)?)
+        }
+        _ => Ok(String::new(alloc)),
     }
-    Trees::new(alloc).read_whole(alloc, &env)?;
-    let program = Vec::from_slice(alloc, program.as_bytes())?;
-    Ok(eval(alloc, program, &env, style, cost)?)
 }
 
 #[test]

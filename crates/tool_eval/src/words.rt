@@ -1,4 +1,4 @@
-// The words of a run's outcome.
+//! The words of a run's outcome.
 ghost use Rattle.std.specs.Prelude.{◌≡◌, ◌++◌, OnOk, string_bytes};
 ghost use Rattle.hex.specs.Hex.{encode_lower};
 ghost use Rattle.clvm_spec.specs.Text.{printed};
@@ -10,12 +10,10 @@ ghost use Rattle.tool_eval.specs.Runs.{IsRunKnown, HasOutcome};
 
 use crate::Style;
 use clvm_eval::{Done, OutOfMemory, RunFault, Which, Why};
+use clvm_spec::limits::MOST_WRITTEN;
 use clvm_text::print;
 use clvm_tree::{Fuel, Node, Trees, WriteFault};
 use std::alloc::Global;
-
-// The most bytes of the spelling of a tree that is written.
-const LONGEST: usize = 33_554_432;
 
 fn write_hexadecimal(alloc: Global, text: &mut String, bytes: &[u8]) -> Result<(), OutOfMemory>
     ensures { OnOk result (string_bytes text.new ≡ string_bytes text.old ++ encode_lower bytes.now) }
@@ -40,7 +38,8 @@ fn write_printed(
     }
 }
 
-fn write_tree(
+/// Appends a tree in a style. One whose spelling has more than 33,554,432 bytes is `too-long`.
+pub fn write_tree(
     alloc: Global,
     text: &mut String,
     trees: &Trees,
@@ -50,7 +49,7 @@ fn write_tree(
     requires { IsKnown trees.now node.0 }
     ensures { OnOk result (string_bytes text.new ≡ string_bytes text.old ++ tree_words style (tree_at trees.now node.0)) }
 {
-    match trees.write(alloc, node, LONGEST) {
+    match trees.write(alloc, node, MOST_WRITTEN) {
         Ok(bytes) => match style {
             Style::Hexadecimal => write_hexadecimal(alloc, text, &bytes),
             Style::Text => write_printed(alloc, text, trees, node),

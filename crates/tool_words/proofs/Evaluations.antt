@@ -8,6 +8,7 @@ use Rattle.std.proofs.lemmas.Bool.{false_from_ne_true, and_parts}
 use Rattle.std.proofs.lemmas.Str.Parse.{IsNumeralModel, numerals_by_value, parse_digits}
 use Rattle.clap.specs.Walk.{first_of}
 use Rattle.clap.specs.Walk.{Row as Found}
+use Rattle.tool_words.specs.declared.limits.TheConstants.{MOST_DIGITS}
 use Rattle.tool_words.specs.Rows.{Text, Row, Item, is_among, flags_in, others_in, options_in, are_new, have_digits, is_digits, is_whole, items_from, whole}
 use Rattle.tool_words.specs.Parser.{digits_at, flag_text, words_in, IsRead}
 use Rattle.tool_words.specs.Evals.{eval_row, up_to, cost_of, env_of, eval_in, eval_of}
@@ -21,7 +22,7 @@ own = numerals_by_value _ (search rules)
 
 is_long_and : (digits : Text) → is_digits digits ≡ true → list_all is_ascii_digit digits ≡ true
 is_long_and digits is =
-    (and_parts (nat_le (length digits) 20) _ (and_parts (nat_le 1 (length digits)) _ is).1).1
+    (and_parts (nat_le (length digits) MOST_DIGITS) _ (and_parts (nat_le 1 (length digits)) _ is).1).1
 
 past : (most number : ℕ) → most < number → up_to most number ≡ None
 past most number more = ap (λ b. cond b (Some number) None) (false_from_ne_true (nat_le number most) (λ within. omega (arith, more, leb-true number most within)))

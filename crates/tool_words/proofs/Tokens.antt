@@ -4,6 +4,7 @@ use Rattle.std.specs.Option.{option_map_or, option_and_then, is_some}
 use Rattle.std.proofs.lemmas.Bool.{false_from_ne_true, and_right}
 use Rattle.std.proofs.lemmas.Slice.Eq.{bytes_eq-Decides}
 use Rattle.clap.specs.Lexer.{strip_byte, long_of, long_of_rest, short_of, short_of_rest}
+use Rattle.tool_words.specs.declared.limits.TheConstants.{MOST_DIGITS}
 use Rattle.tool_words.specs.Rows.{Text, Row, Wrong, behind_hyphen, name_in, value_in, is_among, option_of, hyphened, sorted, sort_of, is_digits}
 use Rattle.tool_words.specs.Parser.{is_long, is_readable}
 
@@ -50,7 +51,7 @@ hyphen_first x xs r e = go (x == 45) refl e
     go false p q = absurd (true≢false (sym (ap is_some q)))
 
 no_digits_45 : (xs : Text) → is_digits (45 ∷ xs) ≡ false
-no_digits_45 xs = and_right (nat_le 1 (length (45 ∷ xs))) _ (and_right (nat_le (length (45 ∷ xs)) 20) _ refl)
+no_digits_45 xs = and_right (nat_le 1 (length (45 ∷ xs))) _ (and_right (nat_le (length (45 ∷ xs)) MOST_DIGITS) _ refl)
 
 no_digits : (w r : Text) → behind_hyphen w ≡ Some r → is_digits w ≡ false
 no_digits [] r e = absurd (true≢false (sym (ap is_some e)))

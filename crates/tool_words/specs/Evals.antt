@@ -1,8 +1,9 @@
 -- What the words behind `eval` say: an environment, the most cost of the run, and whether its trees are told as text.
--- This project's own.
+-- Source: this project's own.
 use Rattle.std.specs.Prelude.{ℕ, List, [], ◌∷◌, Option, Some, None, option_map, option_and_then, if◌then◌else◌, nat_le, codes}
 use Rattle.std.specs.Str.Parse.{digits_value}
 use Rattle.clvm_input.specs.Words.{word_of}
+use Rattle.tool_words.specs.declared.limits.TheConstants.{MOST_COST, USUAL_COST}
 use Rattle.tool_words.specs.Rows.{Text, Row, Item, is_among, flags_in, value_of, others_in, said_in}
 use Rattle.tool_words.specs.declared.said.Command.{Command}
 use Rattle.tool_words.specs.declared.said.Command.TheVariants.{Eval}
@@ -10,20 +11,13 @@ use Rattle.tool_words.specs.declared.said.Command.TheVariants.{Eval}
 abbrev pub eval_row : Row
 eval_row = record { flags = codes "text" ∷ []; numbers = codes "cost" ∷ []; least = 1; most = 1 }
 
-abbrev pub most_cost : ℕ
-most_cost = 1_000_000_000_000
-
--- the cost of a run whose words name none
-abbrev pub usual_cost : ℕ
-usual_cost = 11_000_000_000
-
 -- a number, where it is in its range
 abbrev pub up_to : ℕ → ℕ → Option ℕ
 up_to most number = if nat_le number most then Some number else None
 
 abbrev pub cost_of : Option Text → Option ℕ
-cost_of None = Some usual_cost
-cost_of (Some digits) = up_to most_cost (digits_value 10 digits)
+cost_of None = Some USUAL_COST
+cost_of (Some digits) = up_to MOST_COST (digits_value 10 digits)
 
 -- the bytes of the one word
 abbrev pub env_of : List Text → Option (List ℕ)

@@ -2,6 +2,7 @@
 use Rattle.std.specs.Prelude.{ℕ, Bool, true, not, ◌==◌, ◌&&◌, List, [], ◌∷◌, length, Option, Some, None, option_map, option_and_then, if◌then◌else◌, nat_le, bytes_eq}
 use Rattle.std.specs.List.{list_any, list_all, before_first, after_first}
 use Rattle.std.specs.Char.{is_ascii_digit}
+use Rattle.tool_words.specs.declared.limits.TheConstants.{MOST_DIGITS}
 
 abbrev pub Text : Type 0
 Text = List ℕ
@@ -125,7 +126,7 @@ are_new before (name ∷ names) = not (is_among before name) && are_new (name �
 
 -- whether a text is 1 to 20 ASCII digits
 abbrev pub is_digits : Text → Bool
-is_digits text = nat_le 1 (length text) && (nat_le (length text) 20 && list_all is_ascii_digit text)
+is_digits text = nat_le 1 (length text) && (nat_le (length text) MOST_DIGITS && list_all is_ascii_digit text)
 
 abbrev pub have_digits : List Item → Bool
 have_digits items = list_all (λ number. is_digits number.1) (numbers_in items)

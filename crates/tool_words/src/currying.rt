@@ -8,6 +8,7 @@ ghost use Rattle.tool_words.specs.Parser.{texts_of, words_in};
 ghost use Rattle.tool_words.specs.Curries.{curry_of};
 ghost use Rattle.tool_words.specs.Commands.{Says};
 
+use crate::limits::MOST_ARGUMENTS;
 use crate::parse::parse;
 use crate::row::Row;
 use crate::said::{Command, WordsFault};
@@ -42,7 +43,7 @@ pub(crate) fn currying(alloc: Global, words: &[String]) -> Result<Command, Words
         flags: &[],
         numbers: &[],
         least: 0,
-        most: 64,
+        most: MOST_ARGUMENTS,
     };
     let matches = parse(alloc, row, words)?;
     Ok(Command::Curry {

@@ -10,17 +10,13 @@ ghost use Rattle.tool_words.specs.Parser.{digits_at, texts_of, words_in};
 ghost use Rattle.tool_words.specs.Evals.{cost_of, env_of, eval_of, up_to};
 ghost use Rattle.tool_words.specs.Commands.{Says};
 
+use crate::limits::{MOST_COST, USUAL_COST};
 use crate::parse::parse;
 use crate::row::Row;
 use crate::said::{Command, WordsFault};
 use clap::ArgMatches;
 use clvm_input::{Word, read_word};
 use std::alloc::Global;
-
-// The most cost that a run may have, and that of a run whose words name none.
-const MOST_COST: u64 = 1_000_000_000_000;
-
-const USUAL_COST: u64 = 11_000_000_000;
 
 // What digits write, where it is at most this.
 fn number_up_to(most: u64, digits: &str) -> Option<u64>

@@ -3,6 +3,7 @@
 
 mod currying;
 mod evaluation;
+pub mod limits;
 mod parse;
 mod row;
 pub mod said;

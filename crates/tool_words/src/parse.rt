@@ -9,6 +9,7 @@ ghost use Rattle.tool_words.specs.Rows.{is_digits};
 ghost use Rattle.tool_words.specs.Parser.{is_good, is_readable, texts_of, row_of, digits_at, words_in, Takes, Reads};
 ghost use Rattle.tool_words.specs.Fits.{fits, numbers_fit};
 
+use crate::limits::MOST_DIGITS;
 use crate::row::{Row, parser};
 use crate::said::WordsFault;
 use clap::ArgMatches;
@@ -77,7 +78,7 @@ fn are_digits(bytes: &[u8]) -> bool
 fn is_digits(text: &str) -> bool
     ensures { result ≡ is_digits text.now }
 {
-    1 <= text.len() && text.len() <= 20 && are_digits(text.as_bytes())
+    1 <= text.len() && text.len() <= MOST_DIGITS && are_digits(text.as_bytes())
 }
 
 // Whether a number isn't there, or has digits.

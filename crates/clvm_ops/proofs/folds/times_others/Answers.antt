@@ -2,6 +2,7 @@ use Rattle.std.proofs.Common.{◌*ℤ◌, to_z, length, sym, ap, ◌∙◌, arit
 use Rattle.std.specs.Int.{w128}
 use Rattle.std.proofs.lemmas.Bool.{leb-true}
 use Rattle.std.proofs.lemmas.Int.{to_z-of_z}
+use Rattle.clvm_spec.specs.declared.limits.TheConstants.{NUMBER_BYTES}
 use Rattle.clvm_spec.specs.Operators.{or_wide, new_number}
 use Rattle.clvm_ops.proofs.NodeLists.{known_at}
 use Rattle.clvm_ops.proofs.FoldLaws.{short_at, left_wide, times_step}
@@ -12,7 +13,7 @@ bytes_of-requires c = known_at c.args.trees.now c.args.others.now c.loop-other.o
 
 pub factor_cost-cost-requires-clause-other : goal.factor_cost-cost-requires-clause-other
 factor_cost-cost-requires-clause-other c =
-    omega (arith, leb-true _ 16 (short_at c.args.trees.now c.args.others.now c.loop-other.other-index record { 0 = 0 } (omega arith) c.requires.short), ap length c.bytes_of.ensures)
+    omega (arith, leb-true _ NUMBER_BYTES (short_at c.args.trees.now c.args.others.now c.loop-other.other-index record { 0 = 0 } (omega arith) c.requires.short), ap length c.bytes_of.ensures)
 
 pub number_of-requires-clause-known : goal.number_of-requires-clause-known
 number_of-requires-clause-known c = known_at c.args.trees.now c.args.others.now c.loop-other.other-index record { 0 = 0 } c.requires.known (omega arith)

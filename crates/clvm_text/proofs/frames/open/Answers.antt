@@ -8,12 +8,12 @@ use Rattle.clvm_text.proofs.FrameLaws.{AreBegun-push, AreWithin-push, waiting-pu
 use Rattle.clvm_text.proofs.StepLaws.{opens_list, stops_at, no_list, too_deep, list_begun, list_within, list_element}
 use Rattle.clvm_text.proofs.frames.open.Goals as goal
 
-pub returns-then-depth-ge1024-clause-stops : goal.returns-then-depth-ge1024-clause-stops
-returns-then-depth-ge1024-clause-stops c = λ trees within mode_within text rest.
+pub returns-then-depth-ge-MOST_OPEN-clause-stops : goal.returns-then-depth-ge-MOST_OPEN-clause-stops
+returns-then-depth-ge-MOST_OPEN-clause-stops c = λ trees within mode_within text rest.
     let m = c.args.mode in
     let place = c.args.place in
     stops_at c.as_slice.result.now c.args.frames.now.items m kind.Deep place c.fault.result c.as_slice.ensures.value c.fault.ensures trees text (Took tokens.Opening (drop place text) rest) within mode_within
-    (too_deep trees text m c.in-Some.depth (drop place text) rest (sym c.depth_in.ensures ∙ c.in-Some.is) c.if-depth-ge1024.true)
+    (too_deep trees text m c.in-Some.depth (drop place text) rest (sym c.depth_in.ensures ∙ c.in-Some.is) c.if-depth-ge-MOST_OPEN.true)
 
 pub returns-in_ok-push-in-Some-clause-few : goal.returns-in_ok-push-in-Some-clause-few
 returns-in_ok-push-in-Some-clause-few c =
@@ -35,7 +35,7 @@ returns-in_ok-push-in-Some-clause-takes c = λ trees begun within.
         mode_within = tt;
       },
       λ text rest.
-          opens_list trees text frames m depth (drop place text) rest (sym c.depth_in.ensures ∙ c.in-Some.is) (omega (arith, c.if-depth-ge1024.false))
+          opens_list trees text frames m depth (drop place text) rest (sym c.depth_in.ensures ∙ c.in-Some.is) (omega (arith, c.if-depth-ge-MOST_OPEN.false))
           ∙ ap (λ f. told trees text f (mode.List (depth + 1) false) (token_of rest)) (sym pushed),
     )
 

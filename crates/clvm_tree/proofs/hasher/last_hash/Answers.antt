@@ -2,6 +2,7 @@ use Rattle.std.proofs.Common.{◌≡◌, ◌<◌, ◌≤◌, length, subst, ⊎_
 use Rattle.std.proofs.lemmas.Bool.{cases_lt}
 use Rattle.clvm_tree.specs.Arena.{trees_of}
 use Rattle.clvm_tree.specs.Uses.{IsReady}
+use Rattle.clvm_tree.specs.declared.arena.TheConstants.{FIRST_COUNT}
 use Rattle.clvm_tree.proofs.ReadyLaws.{ready_first, ready_low}
 use Rattle.clvm_tree.proofs.hasher.last_hash.Goals as goal
 
@@ -14,8 +15,8 @@ hash_at-requires-clause-ready c =
     let count = length c.args.uses.now in
     let place = c.loop-place.place in
     ⊎_elim
-    (λ (small : count < 2). ready_low c.args.bytes.now c.args.entries.now c.args.uses.now c.loop-place.kept place place count c.loop-place.invariant (omega (arith, small)))
-    (λ (large : 2 ≤ count).
+    (λ (small : count < FIRST_COUNT). ready_low c.args.bytes.now c.args.entries.now c.args.uses.now c.loop-place.kept place place count c.loop-place.invariant (omega (arith, small)))
+    (λ (large : FIRST_COUNT ≤ count).
     let same : place ≡ count = omega (arith, c.loop-place.auto.place-end large, c.loop-place-test.false) in
     subst (λ n. IsReady trees c.args.uses.now c.loop-place.kept n n) same c.loop-place.invariant)
-    (cases_lt count 2)
+    (cases_lt count FIRST_COUNT)

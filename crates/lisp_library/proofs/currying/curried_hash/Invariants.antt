@@ -1,5 +1,5 @@
 use Rattle.std.proofs.Common.{◌≡◌, drop}
-use Rattle.lisp_spec.specs.Curried.{environment_hash}
+use Rattle.clvm_spec.specs.Currying.{environment_hash}
 use Rattle.lisp_library.proofs.currying.curried_hash.Given as goal
 
 abbrev pub invariant-loop-place : goal.invariant-loop-place

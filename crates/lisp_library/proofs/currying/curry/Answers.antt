@@ -1,7 +1,7 @@
 use Rattle.std.proofs.Common.{◌∙◌, ◌-◌, drop, sym, ap, arith}
 use Rattle.clvm_tree.specs.Operators.{trees_at}
 use Rattle.clvm_tree.proofs.NodeLaws.{grows_on, grows_length, stays}
-use Rattle.lisp_spec.specs.Curried.{environment_with}
+use Rattle.clvm_spec.specs.Currying.{environment_with}
 use Rattle.lisp_library.proofs.Made.{known_at, known_later, from_one_before, one_argument_more}
 use Rattle.lisp_library.proofs.currying.curry.Goals as goal
 

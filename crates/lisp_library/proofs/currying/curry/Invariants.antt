@@ -2,7 +2,7 @@ use Rattle.std.proofs.Common.{◌≡◌, ◌+◌, ◌*◌, ◌≤◌, [], ◌∷
 use Rattle.clvm_spec.specs.Tree.{Atom}
 use Rattle.clvm_tree.specs.Nodes.{tree_at, IsKnown, Grows}
 use Rattle.clvm_tree.specs.Operators.{trees_at}
-use Rattle.lisp_spec.specs.Curried.{environment_with}
+use Rattle.clvm_spec.specs.Currying.{environment_with}
 use Rattle.lisp_library.proofs.currying.curry.Given as goal
 
 abbrev pub invariant-loop-place : goal.invariant-loop-place

@@ -5,7 +5,7 @@ use Rattle.clvm_tree.specs.Nodes.{tree_at, AreKnown}
 use Rattle.clvm_tree.specs.Operators.{trees_at}
 use Rattle.clvm_tree.proofs.PendingLaws.{AreKnown-push}
 use Rattle.clvm_spec.specs.Evaluation.{is_code}
-use Rattle.lisp_spec.specs.Curried.{environment_arguments, with_program}
+use Rattle.clvm_spec.specs.Currying.{environment_arguments, with_program}
 use Rattle.lisp_library.proofs.PartLaws.{argument_taken, uncurried-taken, without_argument, with_arguments}
 use Rattle.lisp_library.proofs.uncurrying.uncurry.Goals as goal
 use Rattle.lisp_library.proofs.uncurrying.uncurry.Goals.{then-is_empty-via-then-is_empty, then-is_empty-via-else-is_empty+then-not-is_code}

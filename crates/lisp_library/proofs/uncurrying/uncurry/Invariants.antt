@@ -1,7 +1,7 @@
 use Rattle.std.proofs.Common.{◌≡◌, ◌++◌, option_map}
 use Rattle.clvm_tree.specs.Nodes.{tree_at, IsKnown, AreKnown}
 use Rattle.clvm_tree.specs.Operators.{trees_at}
-use Rattle.lisp_spec.specs.Curried.{environment_arguments}
+use Rattle.clvm_spec.specs.Currying.{environment_arguments}
 use Rattle.lisp_library.proofs.uncurrying.uncurry.Given as goal
 
 abbrev pub invariant-arguments : goal.invariant-arguments

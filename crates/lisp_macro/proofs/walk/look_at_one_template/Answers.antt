@@ -1,6 +1,6 @@
 use Rattle.std.proofs.Common.{refl, ap, sym, ◌∙◌}
 use Rattle.lisp_read.specs.declared.form.Form.TheVariants.{Pair}
-use Rattle.lisp_spec.specs.MacroBodies.{is_empty}
+use Rattle.lisp_read.specs.FormLists.{is_empty}
 use Rattle.lisp_macro.proofs.WalkLaws.{one_template_looked, no_template_law, kept_whole}
 use Rattle.lisp_macro.proofs.walk.look_at_one_template.Goals as goal
 

@@ -1,5 +1,5 @@
 use Rattle.std.proofs.Common.{◌≡◌, codes, ap, sym, ◌∙◌}
-use Rattle.lisp_spec.specs.FormLists.{is_symbol}
+use Rattle.lisp_read.specs.FormLists.{is_symbol}
 use Rattle.lisp_macro.proofs.WalkLaws.{template_looked, unquote_looked}
 use Rattle.lisp_macro.proofs.walk.look_at_template.Goals as goal
 

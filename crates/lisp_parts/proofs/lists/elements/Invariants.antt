@@ -1,6 +1,6 @@
 use Rattle.std.proofs.Common.{◌≡◌}
 use Rattle.lisp_read.specs.Views.{form_of}
-use Rattle.lisp_spec.specs.FormLists.{form_elements}
+use Rattle.lisp_read.specs.FormLists.{form_elements}
 use Rattle.lisp_parts.proofs.ListWalks.{spine, behind}
 use Rattle.lisp_parts.proofs.lists.elements.Given as goal
 

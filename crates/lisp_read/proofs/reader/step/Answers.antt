@@ -28,14 +28,14 @@ returns-in_ok-bytes-in-Literal-clause-stops c =
     stops_same items (Atom c.args.place c.from_vec-bytes.result) items (meant c.args.token) (λ there from. there from ≡ c.args.place) c.put.result c.put.ensures.stops
     (literal_put items c.args.place (literal_bytes c.in-Literal.literal) c.from_vec-bytes.result (meant c.args.token) (ap meant c.in-Literal.is) (c.from_vec-bytes.ensures ∙ c.in_ok-bytes-in-Literal.ensures))
 
-pub returns-in_ok-from_slice-in-Symbol-clause-leads : goal.returns-in_ok-from_slice-in-Symbol-clause-leads
-returns-in_ok-from_slice-in-Symbol-clause-leads c =
+pub returns-in_ok-name-in-Symbol-clause-leads : goal.returns-in_ok-name-in-Symbol-clause-leads
+returns-in_ok-name-in-Symbol-clause-leads c =
     let items = c.args.lists.now.items in
-    leads_same items c.put-in-Symbol.new.lists.items (Symbol c.args.place c.from_vec-name.result) items (meant c.args.token) (λ there from. there from ≡ c.args.place) c.put-in-Symbol.result c.put-in-Symbol.ensures.leads
-    (symbol_put items c.args.place c.in-Symbol.name.now c.from_vec-name.result (meant c.args.token) (ap meant c.in-Symbol.is) (c.from_vec-name.ensures ∙ c.in_ok-from_slice-in-Symbol.ensures.items))
+    leads_same items c.put-in-Symbol.new.lists.items (Symbol c.args.place c.in_ok-name-in-Symbol.name) items (meant c.args.token) (λ there from. there from ≡ c.args.place) c.put-in-Symbol.result c.put-in-Symbol.ensures.leads
+    (symbol_put items c.args.place c.in-Symbol.name.now c.in_ok-name-in-Symbol.name (meant c.args.token) (ap meant c.in-Symbol.is) c.in_ok-name-in-Symbol.ensures)
 
-pub returns-in_ok-from_slice-in-Symbol-clause-stops : goal.returns-in_ok-from_slice-in-Symbol-clause-stops
-returns-in_ok-from_slice-in-Symbol-clause-stops c =
+pub returns-in_ok-name-in-Symbol-clause-stops : goal.returns-in_ok-name-in-Symbol-clause-stops
+returns-in_ok-name-in-Symbol-clause-stops c =
     let items = c.args.lists.now.items in
-    stops_same items (Symbol c.args.place c.from_vec-name.result) items (meant c.args.token) (λ there from. there from ≡ c.args.place) c.put-in-Symbol.result c.put-in-Symbol.ensures.stops
-    (symbol_put items c.args.place c.in-Symbol.name.now c.from_vec-name.result (meant c.args.token) (ap meant c.in-Symbol.is) (c.from_vec-name.ensures ∙ c.in_ok-from_slice-in-Symbol.ensures.items))
+    stops_same items (Symbol c.args.place c.in_ok-name-in-Symbol.name) items (meant c.args.token) (λ there from. there from ≡ c.args.place) c.put-in-Symbol.result c.put-in-Symbol.ensures.stops
+    (symbol_put items c.args.place c.in-Symbol.name.now c.in_ok-name-in-Symbol.name (meant c.args.token) (ap meant c.in-Symbol.is) c.in_ok-name-in-Symbol.ensures)

@@ -1,9 +1,9 @@
-use Rattle.std.proofs.Common.{◌≡◌, ◌^◌, ◌<◌, length, subst, sym, ap, arith}
+use Rattle.std.proofs.Common.{◌≡◌, ◌+◌, ◌^◌, ◌<◌, [], ◌∷◌, ◌++◌, length, ◌∙◌, subst, sym, ap, arith}
 use Rattle.std.proofs.lemmas.List.{length-append}
 use Rattle.std.proofs.lemmas.Result.{err_from_is_err_and}
 use Rattle.clvm_spec.specs.Tree.{Atom}
 use Rattle.clvm_tree.specs.Arena.{trees_of, IsArena}
-use Rattle.clvm_tree.specs.declared.arena.Entry.TheVariants.{Bytes}
+use Rattle.clvm_tree.specs.declared.entry.Entry.TheVariants.{Bytes}
 use Rattle.clvm_tree.proofs.ArenaLaws.{length-trees_of, same_trees, adds_atom, adds_node, arena_with, arena_longer}
 use Rattle.clvm_tree.proofs.arena.Trees.add_atom.Goals as goal
 use Rattle.clvm_tree.proofs.arena.Trees.add_atom.Goals.{In_ok-extend_from_slice}
@@ -31,9 +31,12 @@ invariant_of-self-2 c =
     let all = c.extend_from_slice.new.self.items in
     let long = c.in_ok-extend_from_slice.ensures.items in
     let room = length-trees_of bytes es in
-    let entry = Bytes c.len-start.result c.len.result in
-    arena_with es c.push.new.self.items bytes c.args.bytes.now all entry c.self.invariant c.in_ok-push.ensures.items long
-    (omega (arith, c.len.ensures, c.len-start.ensures, c.in_ok-extend_from_slice.ensures.len), omega (arith, c.len.ensures, c.extend_from_slice.new.self.ok.0))
+    let whole = ap length long in
+    let start : c.len-start.result ≡ length bytes = omega (arith, c.len-start.ensures, c.self.inside.bytes.ok.0) in
+    let entry = Bytes c.len-start.result (c.len-start.result + length c.args.bytes.now) in
+    arena_with es c.push.new.self.items bytes c.args.bytes.now all entry c.self.invariant
+    (c.in_ok-push.ensures.items ∙ ap (λ e. es ++ e ∷ []) c.bytes.ensures) long
+    (omega (arith, c.requires.long), omega (arith, start, whole, length-append bytes c.args.bytes.now))
     (omega (arith, room, ap length c.self.view_is)) (short (goal.at.invariant_of-self-2 c).In_ok-extend_from_slice)
 
 pub returns-clause-ok : goal.returns-clause-ok
@@ -41,9 +44,11 @@ returns-clause-ok c =
     let es = c.self.inside.entries.items in
     let bytes = c.self.inside.bytes.items in
     let all = c.extend_from_slice.new.self.items in
-    let room = length-trees_of bytes es in
+    let more = c.args.bytes.now in
+    let long = c.in_ok-extend_from_slice.ensures.items in
     let start : c.len-start.result ≡ length bytes = omega (arith, c.len-start.ensures, c.self.inside.bytes.ok.0) in
-    let end : c.len.result ≡ length all = omega (arith, c.len.ensures, c.extend_from_slice.new.self.ok.0) in
-    let whole = adds_atom es c.push.new.self.items bytes c.args.bytes.now all c.len-start.result c.len.result c.args.self.now c.self.invariant c.self.view_is c.in_ok-extend_from_slice.ensures.items start end c.in_ok-push.ensures.items in
-    adds_node c.args.self.now (trees_of all c.push.new.self.items) _ (Atom c.args.bytes.now) whole
-    (omega (arith, room, ap length c.self.view_is, c.len-2.ensures, c.in_ok-push.ensures.len, c.self.inside.entries.ok.0))
+    let end : c.len-start.result + length more ≡ length all = omega (arith, start, ap length long, length-append bytes more) in
+    let entries = c.in_ok-push.ensures.items ∙ ap (λ e. es ++ e ∷ []) c.bytes.ensures in
+    let whole = adds_atom es c.push.new.self.items bytes more all c.len-start.result (c.len-start.result + length more) c.args.self.now c.self.invariant c.self.view_is long start end entries in
+    adds_node c.args.self.now (trees_of all c.push.new.self.items) _ (Atom more) whole
+    (omega (arith, length-trees_of bytes es, length-trees_of all c.push.new.self.items, ap length c.self.view_is, c.last.ensures, ap length c.in_ok-push.ensures.items, length-append es (c.bytes.result ∷ [])))

@@ -1,4 +1,4 @@
-use Rattle.std.proofs.Common.{◌≡◌, ℕ, List, [], ◌∷◌, ◌<◌, ◌≤◌, length, get_or, refl, sym, ◌∙◌, ap, arith}
+use Rattle.std.proofs.Common.{◌≡◌, ℕ, List, [], ◌∷◌, ◌<◌, ◌≤◌, length, get_or, refl, ◌∙◌, ap, arith}
 use Rattle.clvm_spec.specs.Tree.{Atom}
 use Rattle.clvm_tree.proofs.ArenaLaws.{same_node}
 use Rattle.clvm_tree.proofs.arena.Trees.atom.Goals as goal
@@ -7,10 +7,10 @@ no_bytes : (xs : List ℕ) → length xs < 1 → [] ≡ xs
 no_bytes [] h = refl
 no_bytes (x ∷ xs) h = absurd (omega arith)
 
-one_byte : (xs : List ℕ) → length xs < 2 → 1 ≤ length xs → get_or xs 0 0 ≡ 1 → 1 ∷ [] ≡ xs
-one_byte [] h l e = absurd (omega arith)
-one_byte (y ∷ []) h l e = ap (λ z. z ∷ []) (sym e)
-one_byte (y ∷ z ∷ xs) h l e = absurd (omega arith)
+one_byte : (xs : List ℕ) → length xs < 2 → 1 ≤ length xs → get_or xs 0 0 ∷ [] ≡ xs
+one_byte [] h l = absurd (omega arith)
+one_byte (y ∷ []) h l = refl
+one_byte (y ∷ z ∷ xs) h l = absurd (omega arith)
 
 pub returns-in-empty-clause-ok : goal.returns-in-empty-clause-ok
 returns-in-empty-clause-ok c =
@@ -19,5 +19,5 @@ returns-in-empty-clause-ok c =
 
 pub returns-in-len1-clause-ok : goal.returns-in-len1-clause-ok
 returns-in-len1-clause-ok c =
-    same_node c.args.self.now c.one.result.0 (Atom c.args.bytes.now) c.one.ensures.known
-    (c.one.ensures.stands ∙ ap Atom (one_byte c.args.bytes.now c.in-len1.len_below c.in-len1.len_at_least c.if-byte-eq1.true))
+    same_node c.args.self.now c.byte.result.0 (Atom c.args.bytes.now) c.byte.ensures.known
+    (c.byte.ensures.stands ∙ ap Atom (one_byte c.args.bytes.now c.in-len1.len_below c.in-len1.len_at_least))

@@ -1,6 +1,6 @@
 use Rattle.std.proofs.Common.{◌≡◌, false, codes, ap, sym, ◌∙◌}
 use Rattle.lisp_read.specs.Views.{form_of}
-use Rattle.lisp_spec.specs.FormLists.{is_symbol}
+use Rattle.lisp_read.specs.FormLists.{is_symbol}
 use Rattle.lisp_macro.specs.Calls.{call_of}
 use Rattle.lisp_macro.proofs.BodyLaws.{whole, filled}
 use Rattle.lisp_macro.proofs.call.Call.fill.Goals as goal

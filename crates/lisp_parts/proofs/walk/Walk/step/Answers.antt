@@ -14,10 +14,6 @@ pub returns-in_err-written-clause-found : goal.returns-in_err-written-clause-fou
 returns-in_err-written-clause-found g c = λ known.
     learns_nothing (g.B.Library.texts c.args.library.now) c.args.self.now.included c.args.self.now.included _ refl (λ texts. steps_nothing _ _ _ c.from_residual.ensures.1) known
 
-pub define-requires-clause-text : goal.define-requires-clause-text
-define-requires-clause-text g c =
-    entry_is_ascii (form_of c.args.form) (spec.Defines (written_of c.in-Defines.written)) c.requires.symbols (sym (ap entry_seen c.in-Defines.is) ∙ c.in_ok-written.ensures)
-
 pub returns-in-Ok-clause-found : goal.returns-in-Ok-clause-found
 returns-in-Ok-clause-found g c = λ known.
     learns_nothing (g.B.Library.texts c.args.library.now) c.args.self.now.included c.define.new.self.included _ c.define.ensures.included

@@ -1,0 +1,12 @@
+use Rattle.clvm_ops.proofs.Answered.{faulty, answers_same}
+use Rattle.clvm_ops.proofs.NumberOps.{sum_of_is}
+use Rattle.clvm_ops.proofs.application.Application.sum_of.Goals as goal
+
+pub returns-in_err-size : goal.returns-in_err-size
+returns-in_err-size c = faulty c.args.trees.now c.args.self.now _ c.in_err-size.field-0.0 _ c.from_residual.ensures.1 (c.in_err-size.ensures.err _)
+
+pub returns : goal.returns
+returns c =
+    let trees = c.args.trees.now in
+    answers_same trees c.give_if_held.new.trees c.args.self.now _ _ _
+    (sum_of_is c.args.self.now.cost trees c.args.self.now.operands.now c.in_ok-size.size c.plus_others-sum.result c.in_ok-size.ensures.ok c.plus_others-sum.ensures) c.give_if_held.ensures

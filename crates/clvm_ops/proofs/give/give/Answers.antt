@@ -1,5 +1,0 @@
-use Rattle.clvm_ops.proofs.Answered.{spent}
-use Rattle.clvm_ops.proofs.give.give.Goals as goal
-
-pub returns-in_err-charged : goal.returns-in_err-charged
-returns-in_err-charged c = λ n. spent c.args.trees.now n c.args.left _ c.in_err-charged.field-0.0 _ c.from_residual.ensures.1 (c.in_err-charged.ensures.err _ _)

@@ -1,5 +1,0 @@
-use Rattle.lisp_compile.proofs.NameLaws.{no_name}
-use Rattle.lisp_compile.proofs.head.symbol_code.Goals as goal
-
-pub returns-in-Err : goal.returns-in-Err
-returns-in-Err c = no_name c.args.name.now c.in-Err.ensures.cases.0

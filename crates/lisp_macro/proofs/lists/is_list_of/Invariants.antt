@@ -1,8 +1,0 @@
-use Rattle.std.proofs.Common.{◌≡◌}
-use Rattle.lisp_read.specs.Views.{form_of}
-use Rattle.lisp_spec.specs.FormLists.{form_elements}
-use Rattle.lisp_macro.specs.Lists.{is_long}
-use Rattle.lisp_macro.proofs.lists.is_list_of.Given as goal
-
-abbrev pub invariant-elements : goal.invariant-elements
-invariant-elements l = is_long l.more (form_elements (form_of l.here)) ≡ is_long l.count (form_elements (form_of l.form))

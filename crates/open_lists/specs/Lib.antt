@@ -1,0 +1,5 @@
+pub mod Readings
+pub mod Reaches
+pub mod Lists
+pub mod Faults
+pub mod Steps

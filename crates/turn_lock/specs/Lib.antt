@@ -1,0 +1,4 @@
+pub mod Makers
+pub mod Rule
+pub mod Steps
+pub mod Hands
