@@ -2,3 +2,4 @@ pub mod Chain
 pub mod Looks
 pub mod Soundness
 pub mod StoreViews
+pub mod ChainLaws

@@ -2,5 +2,6 @@
 #![tactic(auto)]
 
 mod chain;
+pub mod laws;
 
 pub use chain::{Peak, Record, Unspent};
