@@ -1,6 +1,6 @@
 -- Records found in a ledger that grew by a block, and in a part of one.
-use Rattle.std.proofs.Common.{◌≡◌, ℕ, suc, ◌==◌, Bool, true, false, ◌&&◌, ◌||◌, not, cond, if◌then◌else◌, Option, Some, None, List, [], ◌∷◌, ◌++◌, map, refl, ap, sym, ◌∙◌, subst}
-use Rattle.std.specs.Prelude.{filter, is_none}
+use Rattle.std.proofs.Common.{◌≡◌, ℕ, suc, ◌==◌, Bool, true, false, ◌&&◌, ◌||◌, cond, if◌then◌else◌, Option, Some, None, List, [], ◌∷◌, ◌++◌, map, refl, ap, sym, ◌∙◌}
+use Rattle.std.specs.Prelude.{filter}
 use Rattle.std.specs.List.{find, list_any}
 use Rattle.std.specs.Option.{option_or}
 use Rattle.std.proofs.lemmas.Bool.{false≢true, eqb-true}
@@ -11,8 +11,8 @@ use Rattle.coin_facts.specs.declared.coin.Coin.{Coin}
 use Rattle.coin_facts.specs.CoinId.{coin_id}
 use Rattle.coin_facts.specs.IdLists.{is_same_id, has_id, is_among}
 use Rattle.chain_spec.specs.declared.chain.Record.{Record}
-use Rattle.chain_spec.specs.Chain.{Ledger, Connected, look_up, made_at, spent_at, with_block, touched_by, after_block}
-use Rattle.chain_spec.specs.Looks.{is_unspent_of, is_outside, is_of_pair, is_asked, unspent_in, unspent_of, part_of}
+use Rattle.chain_spec.specs.Chain.{made_at, spent_at}
+use Rattle.chain_spec.specs.Looks.{is_unspent_of, is_outside, is_of_pair, is_asked, unspent_in}
 use Rattle.chain_spec.specs.ChainLaws.{is_pair, UntouchedStand, PartSufficesForIds, PartSufficesForPairs}
 
 -- ids that test as the same are one id

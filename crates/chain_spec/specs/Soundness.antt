@@ -1,5 +1,5 @@
 -- Which blocks can be connected, and which chains can be. Source: Chia documentation of the coin set.
-use Rattle.std.specs.Prelude.{◌≡◌, ℕ, ◌-◌, ◌^◌, ◌<◌, ◌||◌, List, [], ◌∷◌, Bool, true, false, not, Option, Some, None, map, is_none}
+use Rattle.std.specs.Prelude.{◌≡◌, ◌-◌, ◌^◌, ◌<◌, ◌||◌, List, [], ◌∷◌, Bool, true, false, not, Option, Some, None, map, is_none}
 use Rattle.std.specs.List.{IsDistinct, list_all}
 use Rattle.coin_facts.specs.declared.hash32.Hash32.{Hash32}
 use Rattle.coin_facts.specs.declared.coin.Coin.{Coin}

@@ -1,6 +1,6 @@
 -- Whether a block's bytes are accepted on a chain, and the block as the chain then has it. Source: Chia documentation of the
 -- coin set; the rules' numbers and the reward coin are this project's own.
-use Rattle.std.specs.Prelude.{◌≡◌, ℕ, suc, ◌==◌, ◌&&◌, ◌||◌, List, [], ◌∷◌, ◌++◌, map, nat_lt, Bool, not, Option, Some, None, option_to_list, Result, Ok, Err}
+use Rattle.std.specs.Prelude.{ℕ, suc, ◌==◌, ◌&&◌, ◌||◌, List, ◌++◌, map, nat_lt, Bool, not, Option, option_to_list, Result, Ok, Err}
 use Rattle.coin_facts.specs.declared.coin.Coin.{Coin}
 use Rattle.coin_facts.specs.CoinId.{coin_id}
 use Rattle.coin_facts.specs.Steps.{when}

@@ -5,3 +5,4 @@ pub mod Locked
 pub mod Checks
 pub mod Judgement
 pub mod BlockJudgement
+pub mod JudgeLaws

@@ -1,6 +1,6 @@
 -- When the time locks of conditions hold. Source: Chia documentation of conditions; that a block's locks look at the peak
 -- that it builds on is this project's own.
-use Rattle.std.specs.Prelude.{ℕ, ℤ, pos, ◌+ℤ◌, int_le, Bool, true, not, Option, Some, None, option_map}
+use Rattle.std.specs.Prelude.{ℕ, pos, ◌+ℤ◌, int_le, Bool, true, not, Option, Some, None, option_map}
 use Rattle.chain_spec.specs.declared.chain.Record.{Record}
 use Rattle.chain_spec.specs.declared.chain.Peak.{Peak}
 use Rattle.chain_spec.specs.Chain.{Ledger, look_up}

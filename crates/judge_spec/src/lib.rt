@@ -3,6 +3,7 @@
 
 mod class;
 pub mod costs;
+pub mod laws;
 pub mod limits;
 mod rule;
 
