@@ -223,9 +223,10 @@ pub once-each : (a : Hash32 → Bool) (spends : List Spend) → Fresh a (first_j
 once-each a [] f = tt
 once-each a (spend ∷ spends) f =
     let ids = map coin_id (coins_made_by spend) in
-    let all : Fresh a (ids ++ first_judged.created_ids spends) = subst_list a (map-append coin_id (coins_made_by spend) (first_judged.created_coins spends)) f in
-    (no_same_output (coin_id spend.coin) a [] 0 (facts_or_none spend).conditions (fresh-front a ids (first_judged.created_ids spends) all) (λ hash amount h. cc),
-    once-each (λ id. is_among ids id || a id) spends (fresh-back a ids (first_judged.created_ids spends) all))
+    let all : Fresh a (ids ++ first_judged.created_ids spends) = subst_list a (map-append coin_id (coins_made_by spend) (first_judged.created_coins spends)) f in (
+      no_same_output (coin_id spend.coin) a [] 0 (facts_or_none spend).conditions (fresh-front a ids (first_judged.created_ids spends) all) (λ hash amount h. cc),
+      once-each (λ id. is_among ids id || a id) spends (fresh-back a ids (first_judged.created_ids spends) all),
+    )
   where
     subst_list : (a : Hash32 → Bool) {xs ys : List Hash32} → xs ≡ ys → Fresh a xs → Fresh a ys
     subst_list a e f = subst (Fresh a) e f

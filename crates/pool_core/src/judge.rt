@@ -110,12 +110,7 @@ fn list_cost(spends: &[Spend], payments: &[Payment], limit: u64) -> Result<u64, 
 
 // What is found of spends whose puzzles all pay, before the chain is asked whether they are spent: their cost and fee, or
 // the first broken rule with its place.
-fn judge(
-    alloc: Global,
-    store: &Store,
-    spends: &[Spend],
-    limit: u64,
-) -> Result<Fine, AdmitFault>
+fn judge(alloc: Global, store: &Store, spends: &[Spend], limit: u64) -> Result<Fine, AdmitFault>
     requires limit { limit ≤ GREATEST_MAX_COST }
     requires few { length spends.now < 2 ^ 32 }
     requires pays { list_all is_paying spends.now ≡ true }
