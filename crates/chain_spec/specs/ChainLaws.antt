@@ -1,10 +1,20 @@
 -- Laws of chains and ledgers, each proved once for the crates above. They follow from the definitions.
-use Rattle.std.specs.Prelude.{◌≡◌, ℕ, ◌==◌, ◌&&◌, List, Bool, true, false}
-use Rattle.std.specs.List.{list_any}
+use Rattle.std.specs.Prelude.{◌≡◌, ℕ, ◌==◌, ◌&&◌, List, map, Bool, true, false}
+use Rattle.std.specs.List.{IsDistinct, list_any}
 use Rattle.coin_facts.specs.declared.hash32.Hash32.{Hash32}
+use Rattle.coin_facts.specs.CoinId.{coin_id}
 use Rattle.coin_facts.specs.IdLists.{is_same_id, is_among}
-use Rattle.chain_spec.specs.Chain.{Ledger, Connected, look_up, after_block, touched_by}
+use Rattle.chain_spec.specs.declared.chain.Record.{Record}
+use Rattle.chain_spec.specs.Chain.{Ledger, Connected, Chain, records_of, look_up, after_block, touched_by}
+use Rattle.chain_spec.specs.Soundness.{IsSound}
 use Rattle.chain_spec.specs.Looks.{unspent_of, part_of}
+
+abbrev pub ids_of : List Record → List Hash32
+ids_of records = map (λ found. coin_id found.coin) records
+
+-- The records of a sound chain have distinct ids.
+abbrev pub RecordsAreApart : Type 0
+RecordsAreApart = (chain : Chain) → IsSound chain → IsDistinct is_same_id (ids_of (records_of chain))
 
 -- An id that a block doesn't touch has the same record before and after it.
 abbrev pub UntouchedStand : Type 0
