@@ -1,2 +1,3 @@
-pub mod FactLaws
 pub mod CheckLaws
+pub mod FactLaws
+pub mod FineLaws

@@ -4,10 +4,11 @@ use Rattle.std.specs.List.{list_any}
 use Rattle.block_spec.specs.declared.spend.Spend.{Spend}
 use Rattle.block_spec.specs.declared.attested.Signed.{Signed}
 use Rattle.chain_spec.specs.Chain.{Ledger}
+use Rattle.judge_spec.specs.declared.rule.Rule.TheVariants.{CoinExists}
 use Rattle.judge_spec.specs.Rules.{number_of}
 use Rattle.judge_spec.specs.Facts.{Facts, RunSpends, facts_of}
-use Rattle.judge_spec.specs.Checks.{Terms, Scene, Check}
-use Rattle.judge_spec.specs.Judgement.{Verdict, Broken, first_broken, spends_in, judgement, judgement_of_facts}
+use Rattle.judge_spec.specs.Checks.{Terms, Scene, Check, checks_of_spent_coins, check_of_new_coins, coin_exists}
+use Rattle.judge_spec.specs.Judgement.{Verdict, Fine, Broken, unless_broken, first_broken, spends_in, cost_of, fee_of, spent_twice, judged, judgement, judgement_of_facts}
 
 -- Facts that a limit lets be found are found with any greater one.
 abbrev pub FactsKeep : Type 0
@@ -44,3 +45,26 @@ NoneIsTold = (scene : Scene) (checks : List Check) (verdict : Verdict) → AreKe
 abbrev pub AttestedIsASet : Type 0
 AttestedIsASet = (terms : Terms) (ledger : Ledger) (spends : List Spend) (attested others : List Signed) → ((test : Signed → Bool) → list_any test attested ≡ list_any test others) →
     judgement terms ledger spends attested ≡ judgement terms ledger spends others
+
+abbrev pub all_checks : List Check
+all_checks = checks_of_spent_coins ++ check_of_new_coins ∷ []
+
+abbrev pub scene_of : Terms → Ledger → List Facts → List Signed → Scene
+scene_of terms ledger list attested = record { terms = terms; ledger = ledger; list = list; attested = attested }
+
+-- Where the verdict is Fine no rule is broken, and it tells the cost and the fee of the list.
+abbrev pub FineIsKept : Type 0
+FineIsKept = (terms : Terms) (ledger : Ledger) (list : List Facts) (attested : List Signed) (cost fee : ℕ) →
+    judgement_of_facts terms ledger list attested ≡ Fine cost fee →
+    (spent_twice (spends_in list) ≡ None) × AreKept (scene_of terms ledger list attested) all_checks
+    × (Fine (cost_of terms ledger.peak list) (fee_of list) ≡ Fine cost fee)
+
+-- The cost is within the limit where there is a spend.
+abbrev pub FineIsWithinTheLimit : Type 0
+FineIsWithinTheLimit = (terms : Terms) (ledger : Ledger) (facts : Facts) (list : List Facts) (attested : List Signed) (cost fee : ℕ) →
+    judgement_of_facts terms ledger (facts ∷ list) attested ≡ Fine cost fee → cost_of terms ledger.peak (facts ∷ list) ≤ terms.limit
+
+-- The rule that looks up created ids is asked last.
+abbrev pub NewCoinsLast : Type 0
+NewCoinsLast = (scene : Scene) → judged scene
+    ≡ first_broken checks_of_spent_coins scene (unless_broken CoinExists (coin_exists scene) (Fine (cost_of scene.terms scene.ledger.peak scene.list) (fee_of scene.list)))

@@ -1,5 +1,5 @@
 //! Laws of the definitions. Each is the contract of a function that does nothing.
-ghost use Rattle.judge_spec.specs.JudgeLaws.{FactsKeep, FactsOrSpent, FactsDecide, FirstIsTold, NoneIsTold, AttestedIsASet};
+ghost use Rattle.judge_spec.specs.JudgeLaws.{FactsKeep, FactsOrSpent, FactsDecide, FirstIsTold, NoneIsTold, AttestedIsASet, FineIsKept, FineIsWithinTheLimit, NewCoinsLast};
 
 /// More of a limit keeps facts, and less of it finds the same or is spent.
 pub fn facts_keep()
@@ -21,4 +21,15 @@ pub fn first_is_told()
 /// What is attested is a set.
 pub fn attested_is_a_set()
     ensures { AttestedIsASet }
+{}
+
+/// A Fine verdict tells the cost and the fee, breaks no rule, and is within the limit where there is a spend.
+pub fn fine_is_sound()
+    ensures kept { FineIsKept }
+    ensures within { FineIsWithinTheLimit }
+{}
+
+/// Created ids are looked up last.
+pub fn new_coins_last()
+    ensures { NewCoinsLast }
 {}
