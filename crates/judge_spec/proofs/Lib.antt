@@ -1,2 +1,6 @@
-pub mod FactLaws
 pub mod CheckLaws
+pub mod FactLaws
+mod FineRows
+mod PairRows
+pub mod RowParts
+mod RuleRows
