@@ -1,5 +1,5 @@
 -- The block that bytes stand for, or where they go wrong. Source: this project's own.
-use Rattle.std.specs.Prelude.{ℕ, ◌^◌, List, [], ◌∷◌, length, Option, Some, None, Result, Ok, Err}
+use Rattle.std.specs.Prelude.{ℕ, ◌^◌, List, [], ◌∷◌, length, Option, Some, None, Result, Err}
 use Rattle.std.specs.Option.{ok_or}
 use Rattle.clvm_spec.specs.Tree.{Tree, Atom, Pair}
 use Rattle.clvm_spec.specs.ProperList.{elements}

@@ -1,1 +1,5 @@
 pub mod Chain
+pub mod Looks
+pub mod Soundness
+pub mod StoreViews
+pub mod ChainLaws

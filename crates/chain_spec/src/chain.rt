@@ -16,3 +16,11 @@ pub struct Peak {
     pub hash: Hash32,
     pub seconds: u64,
 }
+
+/// What there is of unspent coins of one puzzle hash and amount: none, one of this id, or several.
+#[derive(Clone, Copy, Debug, PartialEq, Eq)]
+pub enum Unspent {
+    None,
+    One(Hash32),
+    Many,
+}

@@ -1,6 +1,7 @@
-//! The definitions of the chain: its coin records and its newest block.
+//! The definitions of the chain: its blocks, its coin records, and the store that has them.
 #![tactic(auto)]
 
 mod chain;
+pub mod laws;
 
-pub use chain::{Peak, Record};
+pub use chain::{Peak, Record, Unspent};

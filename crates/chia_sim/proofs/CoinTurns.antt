@@ -5,7 +5,7 @@ use Rattle.serde_json.specs.View.{view}
 use Rattle.serde_json.specs.declared.value.Value.{Value}
 use Rattle.coin_facts.specs.declared.coin.Coin.{Coin}
 use Rattle.coin_facts.specs.CoinId.{coin_id}
-use Rattle.chain_spec.specs.Chain.{Chain, is_in_chain}
+use Rattle.chain_spec.specs.Chain.{Chain, is_in_chain, ledger_of}
 use Rattle.session_spec.specs.Steps.{all_of}
 use Rattle.session_spec.specs.FirstForm.{coin_of}
 use Rattle.session_spec.proofs.StartCoins.{started, with_coin, started-read, started-twice, started-refused}
@@ -21,12 +21,12 @@ at_line chain lines i line within here =
     ∙ ap (λ l. started chain (all_of coin_of (view l ∷ map view (drop (i + 1) lines)))) (sym here)
 
 pub started_from-new : (chain : Chain) (lines : List Value) (i : ℕ) (line : Value) (coin : Coin) → i < length lines → line ≡ get_or lines i line
-    → coin_of (view line) ≡ Some coin → is_in_chain chain (coin_id coin) ≡ false → started_from chain i lines ≡ started_from (with_coin chain coin) (i + 1) lines
+    → coin_of (view line) ≡ Some coin → is_in_chain (ledger_of chain) (coin_id coin) ≡ false → started_from chain i lines ≡ started_from (with_coin chain coin) (i + 1) lines
 started_from-new chain lines i line coin within here found new =
     at_line chain lines i line within here ∙ started-read coin_of chain (view line) coin (map view (drop (i + 1) lines)) found new
 
 pub started_from-there : (chain : Chain) (lines : List Value) (i : ℕ) (line : Value) (coin : Coin) → i < length lines → line ≡ get_or lines i line
-    → coin_of (view line) ≡ Some coin → is_in_chain chain (coin_id coin) ≡ true → started_from chain i lines ≡ None
+    → coin_of (view line) ≡ Some coin → is_in_chain (ledger_of chain) (coin_id coin) ≡ true → started_from chain i lines ≡ None
 started_from-there chain lines i line coin within here found there =
     at_line chain lines i line within here ∙ started-twice coin_of chain (view line) coin (map view (drop (i + 1) lines)) found there
 

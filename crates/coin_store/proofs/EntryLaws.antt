@@ -9,7 +9,7 @@ use Rattle.coin_facts.specs.declared.coin.Coin.{Coin}
 use Rattle.coin_facts.specs.contracts.hash32.Hash32PartialEq.TheImpl.{eq-value}
 use Rattle.coin_facts.specs.CoinId.{coin_id}
 use Rattle.chain_spec.specs.declared.chain.Record.{Record}
-use Rattle.chain_spec.specs.Chain.{Chain, start_record, look_up}
+use Rattle.chain_spec.specs.Chain.{Chain, start_record, look_up, start_ledger}
 use Rattle.coin_facts.specs.IdLists.{is_same_id, has_id}
 use Rattle.coin_store.specs.DistinctIds.{HasDistinctIds}
 use Rattle.coin_store.specs.Entries.{entry_of, entries_of}
@@ -37,7 +37,7 @@ keys_of-entries_of seconds (coin ∷ coins) =
 
 module _ (entries : List (Hash32 × Record)) (chain : Chain) (held : entries ≡ entries_of chain.seconds chain.coins) where
   -- the entries find what the chain has
-  pub lookup-held : (id : Hash32) → lookup (eq-value.it id) entries ≡ look_up chain id
+  pub lookup-held : (id : Hash32) → lookup (eq-value.it id) entries ≡ look_up (start_ledger chain) id
   lookup-held id =
       ap (lookup (eq-value.it id)) held ∙ lookup-entries_of chain.seconds id chain.coins
 

@@ -1,7 +1,7 @@
 ghost use Rattle.std.specs.Prelude.{◌≡◌, ◌↔◌, [], ◌∷◌, ◌++◌, IsTrue, OnOk, OnErr};
 ghost use Rattle.std.specs.Option.{option_copied};
 ghost use Rattle.coin_facts.specs.CoinId.{coin_id};
-ghost use Rattle.chain_spec.specs.Chain.{look_up, peak_of, is_in_chain};
+ghost use Rattle.chain_spec.specs.Chain.{look_up, peak_of, is_in_chain, ledger_of};
 ghost use Rattle.coin_store.specs.DistinctIds.{HasDistinctIds};
 
 use chain_spec::{Peak, Record};
@@ -41,7 +41,7 @@ impl Model for Store {
 impl Store {
     /// A chain with this genesis data, in Unix seconds, and no coin.
     pub fn new(alloc: Global, genesis: Hash32, seconds: u64) -> Store
-        ensures { result ≡ record { genesis = genesis; seconds = seconds; coins = [] } }
+        ensures { result ≡ record { genesis = genesis; seconds = seconds; coins = []; blocks = [] } }
     {
         Store {
             genesis,
@@ -55,7 +55,7 @@ impl Store {
     /// After a fault the store stands as before.
     pub fn start_coin(&mut self, _alloc: Global, coin: Coin) -> Result<(), StartFault>
         ensures ok { OnOk result (self.new ≡ record self.old { coins = self.old.coins ++ coin ∷ [] }) }
-        ensures exists { (result ≡ Err StartFault.Exists) ↔ IsTrue (is_in_chain self.old (coin_id coin)) }
+        ensures exists { (result ≡ Err StartFault.Exists) ↔ IsTrue (is_in_chain (ledger_of self.old) (coin_id coin)) }
         ensures err { OnErr result (self.new ≡ self.old) }
     {
         let id = coin.id();
@@ -69,7 +69,7 @@ impl Store {
     // nothing is to be taken back.
     fn add(&mut self, id: Hash32, coin: Coin) -> Result<(), OutOfMemory>
         requires id { id ≡ coin_id coin }
-        requires new { look_up self.old id ≡ None }
+        requires new { look_up (ledger_of self.old) id ≡ None }
         ensures ok { OnOk result (self.new ≡ record self.old { coins = self.old.coins ++ coin ∷ [] }) }
         ensures err { OnErr result (self.new ≡ self.old) }
     {
@@ -113,7 +113,7 @@ impl Store {
 
     /// The record of the coin with this id, lent, None exactly where there is none.
     pub fn look_up(&self, id: &Hash32) -> Option<&Record>
-        ensures { option_copied result ≡ look_up self.now id.now }
+        ensures { option_copied result ≡ look_up (ledger_of self.now) id.now }
     {
         self.records.get(id)
     }

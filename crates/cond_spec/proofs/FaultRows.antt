@@ -1,5 +1,5 @@
 -- Conditions that are broken, computed: each fault of operands, of codes and of lists.
-use Rattle.std.proofs.Common.{◌≡◌, ℕ, List, [], ◌∷◌, replicate, refl}
+use Rattle.std.proofs.Common.{◌≡◌, [], ◌∷◌, replicate, refl}
 use Rattle.clvm_spec.specs.Tree.{Tree, Atom, Pair, list_tree}
 use Rattle.clvm_spec.specs.Numbers.{shortest_atom, without_sign_bytes}
 use Rattle.cond_spec.specs.declared.codes.TheConstants.{REMARK, AGG_SIG_ME, CREATE_COIN, RESERVE_FEE, CREATE_COIN_ANNOUNCEMENT, SEND_MESSAGE, ASSERT_MY_COIN_ID, ASSERT_HEIGHT_ABSOLUTE}

@@ -1,2 +1,2 @@
-mod ConditionRows
+pub mod ConditionRows
 mod FaultRows

@@ -1,5 +1,5 @@
 -- The time locks of conditions, and the conditions that look at a coin's record. Source: Chia documentation of conditions.
-use Rattle.std.specs.Prelude.{ℤ, List, [], ◌∷◌, ◌++◌, Bool, true, false}
+use Rattle.std.specs.Prelude.{ℤ, List, [], ◌∷◌, Bool, true, false}
 use Rattle.coin_facts.specs.declared.hash32.Hash32.{Hash32}
 use Rattle.coin_facts.specs.declared.coin.Coin.{Coin}
 use Rattle.coin_facts.specs.CoinId.{coin_id}

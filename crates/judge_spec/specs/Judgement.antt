@@ -1,83 +1,22 @@
--- The verdict on a list of payments, which break none of the rules but those below. Source: Chia documentation of the coin
--- set and of the mempool; the numbers of the rules, their order and places, and the cost of a list are this project's own.
-use Rattle.std.specs.Prelude.{ℕ, ◌+◌, ◌*◌, ◌-◌, ◌||◌, List, [], ◌∷◌, ◌++◌, length, nat_lt, map, Bool, not, Option, Some, None, option_and_then, option_map, unwrap_or, position, if◌then◌else◌}
-use Rattle.std.specs.List.{sum_by, flat_map}
-use Rattle.std.specs.Str.{bytes_eq}
-use Rattle.clvm_spec.specs.Hashing.{tree_hash}
-use Rattle.coin_facts.specs.declared.hash32.Hash32.{Hash32}
-use Rattle.coin_facts.specs.declared.coin.Coin.{Coin}
+-- The verdict on a list of spends: the first broken of the rules 2 to 23, or its cost and its fee. Source: Chia documentation
+-- of the coin set and of the mempool; the order of the rules, and the cost of a list, are this project's own.
+use Rattle.std.specs.Prelude.{ℕ, ◌+◌, ◌*◌, ◌-◌, List, [], ◌∷◌, ◌++◌, length, map, nat_lt, Option, Some, None, Result, Ok, Err, if◌then◌else◌}
+use Rattle.std.specs.List.{sum_by}
 use Rattle.coin_facts.specs.CoinId.{coin_id}
-use Rattle.coin_facts.specs.IdLists.{is_among, repeat_behind}
+use Rattle.coin_facts.specs.IdLists.{repeat_behind}
 use Rattle.block_spec.specs.declared.spend.Spend.{Spend}
-use Rattle.clvm_spec.specs.Spelled.{spelled_tree}
+use Rattle.block_spec.specs.declared.attested.Signed.{Signed}
 use Rattle.block_spec.specs.Added.{generator_bytes}
-use Rattle.chain_spec.specs.Chain.{Chain, is_in_chain}
+use Rattle.chain_spec.specs.declared.chain.Peak.{Peak}
+use Rattle.chain_spec.specs.Chain.{Ledger}
+use Rattle.cond_spec.specs.Acts.{spent_amounts, created_amounts}
 use Rattle.judge_spec.specs.declared.costs.TheConstants.{BYTE_COST}
+use Rattle.judge_spec.specs.declared.limits.Limits.{Limits}
 use Rattle.judge_spec.specs.declared.rule.Rule.{Rule}
-use Rattle.judge_spec.specs.declared.rule.Rule.TheVariants.{SpentTwice, WrongPuzzleHash, TooCostly, UnknownCoin}
+use Rattle.judge_spec.specs.declared.rule.Rule.TheVariants.{SpentTwice, TooCostly}
 use Rattle.judge_spec.specs.Rules.{number_of}
-use Rattle.judge_spec.specs.Runs.{Done, run_of}
-use Rattle.judge_spec.specs.FirstConditions.{Condition, CreateCoin, conditions_of, cost_of_conditions}
-
--- what a spend's bytes say by themselves: the cost of its run and its conditions, and the conditions
-pub record Facts : Type 0 where
-  pub cost : ℕ
-  pub conditions : List Condition
-
-abbrev pub facts_of_run : Done → Option Facts
-facts_of_run run = option_map (λ conditions. record { cost = run.cost + cost_of_conditions conditions; conditions = conditions }) (conditions_of run.value)
-
-abbrev pub facts_of : Spend → Option Facts
-facts_of spend = option_and_then facts_of_run (run_of (spelled_tree spend.puzzle) (spelled_tree spend.solution))
-
--- a spend whose run isn't done, or whose conditions aren't read, makes nothing
-abbrev pub facts_or_none : Spend → Facts
-facts_or_none spend = unwrap_or (facts_of spend) (record { cost = 0; conditions = [] })
-
--- The coin that a condition makes has the id of the spent coin as its parent.
-abbrev pub coin_of : Hash32 → Condition → Coin
-coin_of parent (CreateCoin hash amount) = record { parent = parent; puzzle_hash = hash; amount = amount }
-
-abbrev pub coins_made_by : Spend → List Coin
-coins_made_by spend = map (coin_of (coin_id spend.coin)) (facts_or_none spend).conditions
-
-abbrev pub created_coins : List Spend → List Coin
-created_coins spends = flat_map coins_made_by spends
-
-abbrev pub spent_amounts : List Spend → ℕ
-spent_amounts spends = sum_by (λ spend. spend.coin.amount) spends
-
-abbrev pub created_amounts : List Spend → ℕ
-created_amounts spends = sum_by (λ coin. coin.amount) (created_coins spends)
-
--- 12,000 for each byte of the generator, and the runs and their conditions
-abbrev pub cost_of : List Spend → ℕ
-cost_of spends = BYTE_COST * generator_bytes spends + sum_by (λ spend. (facts_or_none spend).cost) spends
-
--- the spent amounts less the created ones
-abbrev pub fee_of : List Spend → ℕ
-fee_of spends = spent_amounts spends - created_amounts spends
-
-abbrev pub spent_ids : List Spend → List Hash32
-spent_ids spends = map (λ spend. coin_id spend.coin) spends
-
-abbrev pub created_ids : List Spend → List Hash32
-created_ids spends = map coin_id (created_coins spends)
-
--- Rule 2: a coin is spent twice; at the second spend of it.
-abbrev pub spent_twice : List Spend → Option ℕ
-spent_twice spends = repeat_behind [] 0 (spent_ids spends)
-
--- Rule 3: the puzzle's tree hash isn't the coin's.
-abbrev pub has_its_puzzle : Spend → Bool
-has_its_puzzle spend = bytes_eq (tree_hash (spelled_tree spend.puzzle)) spend.coin.puzzle_hash.bytes
-
--- Rule 11: the coin is neither in the chain nor created by the list.
-abbrev pub is_there : Chain → List Spend → Spend → Bool
-is_there chain spends spend = is_in_chain chain (coin_id spend.coin) || is_among (created_ids spends) (coin_id spend.coin)
-
-abbrev pub unknown_coin : Chain → List Spend → Option ℕ
-unknown_coin chain spends = position (λ spend. not (is_there chain spends spend)) spends
+use Rattle.judge_spec.specs.Facts.{Facts, acts_of, Breach, rule_of, facts_of}
+use Rattle.judge_spec.specs.Checks.{Terms, Scene, Check, checks_of_spent_coins, check_of_new_coins}
 
 pub data Verdict : Type 0 where
   Fine : (cost fee : ℕ) → Verdict
@@ -88,18 +27,71 @@ abbrev pub unless_broken : Rule → Option ℕ → Verdict → Verdict
 unless_broken rule None verdict = verdict
 unless_broken rule (Some place) verdict = Broken (number_of rule) place
 
--- Rules 3 and 5, spend by spend behind earlier ones: rule 3 before rule 5, which is broken where the cost of the list up
--- to this spend and with it is over the limit. A run is a part of that cost.
-abbrev pub spend_by_spend : ℕ → List Spend → List Spend → Verdict → Verdict
-spend_by_spend limit earlier [] verdict = verdict
-spend_by_spend limit earlier (spend ∷ spends) verdict =
-    if has_its_puzzle spend
-    then (if nat_lt limit (cost_of (earlier ++ spend ∷ [])) then Broken (number_of TooCostly) (length earlier) else spend_by_spend limit (earlier ++ spend ∷ []) spends verdict)
-    else Broken (number_of WrongPuzzleHash) (length earlier)
+abbrev pub terms_of : Limits → Terms
+terms_of limits = record { limit = limits.max_cost }
 
--- the first broken rule with its place, or the cost and the fee; the limit is the most that the list may cost
-abbrev pub judgement : Chain → List Spend → ℕ → Verdict
-judgement chain spends limit =
-    unless_broken SpentTwice (spent_twice spends)
-    (spend_by_spend limit [] spends
-    (unless_broken UnknownCoin (unknown_coin chain spends) (Fine (cost_of spends) (fee_of spends))))
+-- ---- cost and fee
+
+-- what a spend's run and conditions are charged on a chain of this peak
+abbrev pub charged : Terms → Peak → Facts → ℕ
+charged terms peak facts = facts.cost
+
+abbrev pub spends_in : List Facts → List Spend
+spends_in list = map (λ facts. facts.spend) list
+
+-- each byte of the generator, and what the spends are charged
+abbrev pub cost_of : Terms → Peak → List Facts → ℕ
+cost_of terms peak list = BYTE_COST * generator_bytes (spends_in list) + sum_by (charged terms peak) list
+
+-- the spent amounts less the created ones
+abbrev pub fee_of : List Facts → ℕ
+fee_of list = spent_amounts (map acts_of list) - created_amounts (map acts_of list)
+
+-- ---- the rules in order
+
+-- Rule 2: a coin is spent twice; at the second spend of it.
+abbrev pub spent_twice : List Spend → Option ℕ
+spent_twice spends = repeat_behind [] 0 (map (λ spend. coin_id spend.coin) spends)
+
+abbrev pub first_broken : List Check → Scene → Verdict → Verdict
+first_broken [] scene verdict = verdict
+first_broken (check ∷ checks) scene verdict = unless_broken check.rule (check.broken_at scene) (first_broken checks scene verdict)
+
+-- Rules 11 to 23, asked one after the other over all spends.
+abbrev pub judged : Scene → Verdict
+judged scene =
+    first_broken (checks_of_spent_coins ++ check_of_new_coins ∷ []) scene
+    (Fine (cost_of scene.terms scene.ledger.peak scene.list) (fee_of scene.list))
+
+-- Rule 5, second part: the cost of the list up to and including this spend is over the limit.
+abbrev pub within_limit : Terms → Peak → List Facts → Facts → Verdict → Verdict
+within_limit terms peak earlier facts verdict =
+    if nat_lt terms.limit (cost_of terms peak (earlier ++ facts ∷ [])) then Broken (number_of TooCostly) (length earlier) else verdict
+
+abbrev pub if_facts : ℕ → Result Facts Breach → (Facts → Verdict) → Verdict
+if_facts place (Ok facts) go = go facts
+if_facts place (Err breach) go = Broken (number_of (rule_of breach)) place
+
+-- Rules 3 to 10 and the second part of rule 5, spend by spend.
+abbrev pub with_facts : Terms → Peak → List Facts → List Spend → (List Facts → Verdict) → Verdict
+with_facts terms peak earlier [] go = go earlier
+with_facts terms peak earlier (spend ∷ spends) go =
+    if_facts (length earlier) (facts_of terms.limit spend) (λ facts.
+    within_limit terms peak earlier facts (with_facts terms peak (earlier ++ facts ∷ []) spends go))
+
+unfoldable pub judgement : Terms → Ledger → List Spend → List Signed → Verdict
+judgement terms ledger spends attested =
+    unless_broken SpentTwice (spent_twice spends) (with_facts terms ledger.peak [] spends (λ list.
+    judged (record { terms = terms; ledger = ledger; list = list; attested = attested })))
+
+-- ---- the same of facts that were found before
+
+abbrev pub with_costs : Terms → Peak → List Facts → List Facts → Verdict → Verdict
+with_costs terms peak earlier [] verdict = verdict
+with_costs terms peak earlier (facts ∷ list) verdict =
+    within_limit terms peak earlier facts (with_costs terms peak (earlier ++ facts ∷ []) list verdict)
+
+unfoldable pub judgement_of_facts : Terms → Ledger → List Facts → List Signed → Verdict
+judgement_of_facts terms ledger list attested =
+    unless_broken SpentTwice (spent_twice (spends_in list)) (with_costs terms ledger.peak [] list
+    (judged (record { terms = terms; ledger = ledger; list = list; attested = attested })))

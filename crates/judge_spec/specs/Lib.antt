@@ -1,5 +1,8 @@
 pub mod Rules
 pub mod LimitsView
-pub mod Runs
-pub mod FirstConditions
+pub mod Facts
+pub mod Locked
+pub mod Checks
 pub mod Judgement
+pub mod BlockJudgement
+pub mod JudgeLaws

@@ -5,8 +5,9 @@ use Rattle.std.specs.List.{list_all}
 use Rattle.std.proofs.lemmas.Bool.Decides.{nat_tests}
 use Rattle.block_spec.specs.declared.spend.Spend.{Spend}
 use Rattle.block_spec.specs.declared.bundle.Bundle.{Bundle}
-use Rattle.chain_spec.specs.Chain.{Chain, is_in_chain}
-use Rattle.judge_spec.specs.Judgement.{judgement, spent_amounts}
+use Rattle.chain_spec.specs.Chain.{Chain, is_in_chain, ledger_of}
+use Rattle.judge_spec.specs.Judgement.{judgement, terms_of}
+use Rattle.pool_spec.specs.FirstJudgement.{spent_amounts}
 use Rattle.coin_facts.specs.IdLists.{repeat_behind}
 use Rattle.pool_spec.specs.Payment.{is_payment}
 use Rattle.pool_spec.specs.Admission.{PoolState, admission, admission_by}
@@ -20,10 +21,9 @@ use Rattle.pool_core.specs.Admissions.{IsRefusedBy}
 use Rattle.pool_core.proofs.JudgeLaws.{paid_ids-created, paid_amounts-created}
 
 -- What the verdict refuses, the admission refuses.
-pub refused-by_verdict : (state : PoolState) (bundle : Bundle) (spends : List Spend) (limit : ℕ) (fault : AdmitFault) → spends ≡ bundle.spends → limit ≡ state.limits.max_cost → IsRefusal (judgement state.chain spends limit) fault → IsRefusedBy (admission state bundle) fault
-refused-by_verdict state bundle spends limit (Refused rule place) same most verdict =
-    ap (admission_by state bundle) (ap₂ (judgement state.chain) (sym same) (sym most) ∙ verdict)
-refused-by_verdict state bundle spends limit OutOfMemory same most verdict = tt
+pub refused-by_verdict : (state : PoolState) (bundle : Bundle) (fault : AdmitFault) → IsRefusal (judgement (terms_of state.limits) (ledger_of state.chain) bundle.spends bundle.attested) fault → IsRefusedBy (admission state bundle) fault
+refused-by_verdict state bundle (Refused rule place) verdict = ap (admission_by state bundle) verdict
+refused-by_verdict state bundle OutOfMemory verdict = tt
 
 three_hold : (a b c d e f : Bool) → a ≡ true → b ≡ true → c ≡ true → (a && b && c && d && e && f) ≡ (d && e && f)
 three_hold true true true d e f ha hb hc = refl
@@ -37,7 +37,7 @@ is_payment-by_payments chain bundle payments some none are =
     let ids = paid_ids-created bundle.spends payments are in
     let amounts = paid_amounts-created bundle.spends payments are in
     three_hold _ _ _ _ _ _ (there_is (length bundle.spends) some) none are.all_pay
-    ∙ sym (λ i. is_none (repeat_behind [] 0 (ids i)) && nat_le (amounts i) (spent_amounts bundle.spends) && list_all (λ id. not (is_in_chain chain id)) (ids i))
+    ∙ sym (λ i. is_none (repeat_behind [] 0 (ids i)) && nat_le (amounts i) (spent_amounts bundle.spends) && list_all (λ id. not (is_in_chain (ledger_of chain) id)) (ids i))
   where
     there_is : (n : ℕ) → (n == 0) ≡ false → nat_lt 0 n ≡ true
     there_is n h = grind (arith, nat_tests)

@@ -11,7 +11,7 @@ use Rattle.block_spec.proofs.AddedLaws.{adds_up}
 use Rattle.judge_spec.specs.declared.rule.Rule.{Rule}
 use Rattle.judge_spec.specs.declared.rule.Rule.TheVariants.{WrongPuzzleHash, TooCostly}
 use Rattle.judge_spec.specs.Rules.{number_of}
-use Rattle.judge_spec.specs.Judgement.{Verdict, Broken, facts_or_none, has_its_puzzle, cost_of, spend_by_spend}
+use Rattle.pool_spec.specs.FirstJudgement.{Verdict, Broken, facts_or_none, has_its_puzzle, cost_of, spend_by_spend}
 use Rattle.pool_core.specs.Costs.{added_cost, grown_cost}
 
 -- one spend more

@@ -3,6 +3,10 @@ mod Amounts
 mod CostLaws
 mod Digits
 mod ElementLaws
+mod FreshIds
 mod IdLaws
 mod JudgeLaws
+mod PaymentFacts
 mod PaymentLaws
+mod PaymentScene
+mod PaymentVerdicts

@@ -13,11 +13,11 @@ use Rattle.coin_facts.specs.declared.coin.Coin.{Coin}
 use Rattle.coin_facts.specs.CoinId.{coin_id}
 use Rattle.block_spec.specs.declared.spend.Spend.{Spend}
 use Rattle.clvm_spec.specs.Spelled.{spelled_tree}
-use Rattle.judge_spec.specs.Runs.{run_of}
+use Rattle.pool_spec.specs.FirstRuns.{run_of}
 use Rattle.clvm_spec.specs.declared.costs.TheConstants.{QUOTE_COST}
 use Rattle.cond_spec.specs.declared.costs.TheConstants.{CREATE_COIN_COST}
-use Rattle.judge_spec.specs.FirstConditions.{Condition, CreateCoin, condition_of, conditions_of, cost_of_condition, cost_of_conditions}
-use Rattle.judge_spec.specs.Judgement.{Facts, coin_of, facts_of_run, facts_of, facts_or_none, coins_made_by}
+use Rattle.pool_spec.specs.FirstConditions.{Condition, CreateCoin, condition_of, conditions_of, cost_of_condition, cost_of_conditions}
+use Rattle.pool_spec.specs.FirstJudgement.{Facts, coin_of, facts_of_run, facts_of, facts_or_none, coins_made_by}
 use Rattle.pool_spec.specs.Payment.{is_triple, are_triples, pays}
 use Rattle.pool_core.specs.declared.payment.Payment.{Payment}
 use Rattle.pool_core.specs.Payments.{paid_coin, paid_coins, quoted_coins}
@@ -61,6 +61,9 @@ facts_with conditions = record { cost = QUOTE_COST + cost_of_conditions conditio
 -- What a puzzle says that pays: its conditions, and the coins that are read of it.
 pub record Pays (parent : Hash32) (puzzle solution : Tree) : Type 0 where
   pub conditions : List Condition
+  pub value : Tree
+  pub quotes : puzzle ≡ Pair (Atom (1 ∷ [])) value
+  pub reads : conditions_of value ≡ Some conditions
   pub pays : pays puzzle ≡ true
   pub coins : quoted_coins parent puzzle ≡ Some (map (coin_of parent) conditions)
   pub facts : option_and_then facts_of_run (run_of puzzle solution) ≡ Some (facts_with conditions)
@@ -83,6 +86,9 @@ unfolding made
 by_value parent value solution (Some cs) true read all =
     paying (record {
       conditions = cs;
+      value = value;
+      quotes = refl;
+      reads = read;
       pays = ap (λ c. is_some c && are_triples value) read ∙ all;
       coins = paid_coins-made parent value ∙ ap (λ t. made parent t (conditions_of value)) all ∙ ap (made parent true) read;
       facts = ap (option_and_then facts_of_run) (quoted_run value solution) ∙ ap (option_map facts_with) read;
@@ -119,7 +125,7 @@ is_puzzle parent (Pair (Atom (code ∷ b ∷ bytes)) value) solution = other (re
 no_facts : Facts
 no_facts = record { cost = 0; conditions = [] }
 
-facts_or_none-is : (spend : Spend) (conditions : List Condition) → facts_of spend ≡ Some (facts_with conditions) → facts_or_none spend ≡ facts_with conditions
+pub facts_or_none-is : (spend : Spend) (conditions : List Condition) → facts_of spend ≡ Some (facts_with conditions) → facts_or_none spend ≡ facts_with conditions
 unfolding no_facts
 facts_or_none-is spend conditions e = ap (λ found. unwrap_or found no_facts) e
 

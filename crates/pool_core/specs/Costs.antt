@@ -6,7 +6,7 @@ use Rattle.block_spec.specs.Added.{added_bytes}
 use Rattle.judge_spec.specs.declared.costs.TheConstants.{BYTE_COST}
 use Rattle.judge_spec.specs.declared.rule.Rule.{Rule}
 use Rattle.judge_spec.specs.declared.rule.Rule.TheVariants.{WrongPuzzleHash, TooCostly}
-use Rattle.judge_spec.specs.Judgement.{Verdict, facts_or_none, has_its_puzzle, cost_of, spend_by_spend}
+use Rattle.pool_spec.specs.FirstJudgement.{Verdict, facts_or_none, has_its_puzzle, cost_of, spend_by_spend}
 
 abbrev pub added_cost : Spend → ℕ
 added_cost spend = BYTE_COST * added_bytes spend + (facts_or_none spend).cost

@@ -2,13 +2,14 @@
 use Rattle.std.specs.Prelude.{◌≡◌, List, map}
 use Rattle.std.specs.List.{AllByRecursion}
 use Rattle.block_spec.specs.declared.bundle.Bundle.{Bundle}
-use Rattle.chain_spec.specs.Chain.{Chain}
-use Rattle.judge_spec.specs.Judgement.{Fine, judgement}
+use Rattle.chain_spec.specs.Chain.{Chain, ledger_of}
+use Rattle.judge_spec.specs.Judgement.{Fine, judgement, terms_of}
 use Rattle.judge_spec.specs.declared.limits.Limits.{Limits}
 use Rattle.pool_core.specs.ItemView.{ItemView}
 
 abbrev pub IsJudged : Chain → Limits → ItemView → Type 0
-IsJudged chain limits item = judgement chain item.bundle.spends limits.max_cost ≡ Fine item.cost item.fee
+IsJudged chain limits item =
+    judgement (terms_of limits) (ledger_of chain) item.bundle.spends item.bundle.attested ≡ Fine item.cost item.fee
 
 abbrev pub AreJudged : Chain → Limits → List ItemView → Type 0
 AreJudged chain limits items = AllByRecursion (IsJudged chain limits) items

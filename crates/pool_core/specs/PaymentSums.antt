@@ -5,8 +5,8 @@ use Rattle.coin_facts.specs.declared.hash32.Hash32.{Hash32}
 use Rattle.coin_facts.specs.declared.coin.Coin.{Coin}
 use Rattle.coin_facts.specs.CoinId.{coin_id}
 use Rattle.block_spec.specs.declared.spend.Spend.{Spend}
-use Rattle.chain_spec.specs.Chain.{Chain, is_in_chain}
-use Rattle.judge_spec.specs.Judgement.{spent_amounts}
+use Rattle.chain_spec.specs.Chain.{Chain, is_in_chain, ledger_of}
+use Rattle.pool_spec.specs.FirstJudgement.{spent_amounts}
 use Rattle.coin_facts.specs.IdLists.{repeat_behind}
 use Rattle.pool_core.specs.declared.payment.Payment.{Payment}
 
@@ -24,4 +24,4 @@ abbrev pub pays_out : Chain → List Spend → List Payment → Bool
 pays_out chain spends payments =
     is_none (repeat_behind [] 0 (paid_ids payments))
     && nat_le (paid_amounts payments) (spent_amounts spends)
-    && list_all (λ id. not (is_in_chain chain id)) (paid_ids payments)
+    && list_all (λ id. not (is_in_chain (ledger_of chain) id)) (paid_ids payments)

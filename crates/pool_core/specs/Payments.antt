@@ -7,8 +7,8 @@ use Rattle.clvm_spec.specs.Evaluation.{is_code}
 use Rattle.coin_facts.specs.declared.hash32.Hash32.{Hash32}
 use Rattle.coin_facts.specs.declared.coin.Coin.{Coin}
 use Rattle.coin_facts.specs.Steps.{all_of}
-use Rattle.judge_spec.specs.FirstConditions.{condition_of}
-use Rattle.judge_spec.specs.Judgement.{coin_of}
+use Rattle.pool_spec.specs.FirstConditions.{condition_of}
+use Rattle.pool_spec.specs.FirstJudgement.{coin_of}
 use Rattle.pool_spec.specs.Payment.{is_triple}
 
 -- the coin that one (51 HASH AMOUNT) makes

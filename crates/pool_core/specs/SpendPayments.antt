@@ -7,7 +7,7 @@ use Rattle.coin_facts.specs.declared.coin.Coin.{Coin}
 use Rattle.coin_facts.specs.CoinId.{coin_id}
 use Rattle.block_spec.specs.declared.spend.Spend.{Spend}
 use Rattle.clvm_spec.specs.Spelled.{spelled_tree}
-use Rattle.judge_spec.specs.Judgement.{coins_made_by}
+use Rattle.pool_spec.specs.FirstJudgement.{coins_made_by}
 use Rattle.pool_spec.specs.Payment.{pays}
 use Rattle.pool_core.specs.declared.payment.Payment.{Payment}
 use Rattle.pool_core.specs.Payments.{quoted_coins}

@@ -1,6 +1,6 @@
 -- How a fault stands for a verdict. Source: this project's own.
 use Rattle.std.specs.Prelude.{◌≡◌}
-use Rattle.judge_spec.specs.Judgement.{Verdict, Broken}
+use Rattle.pool_spec.specs.FirstJudgement.{Verdict, Broken}
 use Rattle.pool_core.specs.declared.fault.AdmitFault.{AdmitFault}
 use Rattle.pool_core.specs.declared.fault.AdmitFault.TheVariants.{Refused, OutOfMemory}
 

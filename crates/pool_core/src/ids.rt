@@ -3,9 +3,9 @@ ghost use Rattle.std.specs.Prelude.{◌≡◌, ◌||◌, ◌++◌, [], map, not,
 ghost use Rattle.std.specs.List.{list_all};
 ghost use Rattle.std.specs.HashSet.{contains};
 ghost use Rattle.coin_facts.specs.CoinId.{coin_id};
-ghost use Rattle.chain_spec.specs.Chain.{is_in_chain};
+ghost use Rattle.chain_spec.specs.Chain.{is_in_chain, ledger_of};
 ghost use Rattle.coin_facts.specs.IdLists.{is_same_id};
-ghost use Rattle.judge_spec.specs.Judgement.{spent_ids};
+ghost use Rattle.pool_spec.specs.FirstJudgement.{spent_ids};
 ghost use Rattle.coin_facts.specs.IdLists.{is_among, repeat_behind};
 ghost use Rattle.pool_core.specs.IdSets.{HasIds};
 ghost use Rattle.pool_core.specs.PaymentSums.{paid_ids};
@@ -75,21 +75,21 @@ pub(crate) fn created_ids(alloc: Global, payments: &[Payment]) -> Result<Vec<Has
 
 /// Whether none of these ids is in the chain.
 pub(crate) fn are_new(store: &Store, ids: &[Hash32]) -> bool
-    ensures { result ≡ list_all (λ id. not (is_in_chain store.now id)) ids.now }
+    ensures { result ≡ list_all (λ id. not (is_in_chain (ledger_of store.now) id)) ids.now }
 {
     ids.iter().all(|id| store.look_up(id).is_none())
 }
 
 // Whether an id is in the chain or in the set.
 fn is_known(store: &Store, created: &HashSet<Hash32>, id: &Hash32) -> bool
-    ensures { result ≡ (is_in_chain store.now id.now || contains is_same_id created.now id.now) }
+    ensures { result ≡ (is_in_chain (ledger_of store.now) id.now || contains is_same_id created.now id.now) }
 {
     store.look_up(id).is_some() || created.contains(id)
 }
 
 // The place of the first id that is neither in the chain nor in the set.
 fn first_outside(store: &Store, created: &HashSet<Hash32>, ids: &[Hash32]) -> Option<usize>
-    ensures value { result ≡ position (λ id. not (is_in_chain store.now id || contains is_same_id created.now id)) ids.now }
+    ensures value { result ≡ position (λ id. not (is_in_chain (ledger_of store.now) id || contains is_same_id created.now id)) ids.now }
     ensures within { IfSome result (λ p. p < length ids.now) }
 {
     ids.iter().position(|id| !is_known(store, created, id))
@@ -102,7 +102,7 @@ pub(crate) fn first_unknown(
     ids: &[Hash32],
     created: &[Hash32],
 ) -> Result<Option<usize>, OutOfMemory>
-    ensures value { IfOk result (λ place. place ≡ position (λ id. not (is_in_chain store.now id || is_among created.now id)) ids.now) }
+    ensures value { IfOk result (λ place. place ≡ position (λ id. not (is_in_chain (ledger_of store.now) id || is_among created.now id)) ids.now) }
     ensures within { IfOk result (λ place. IfSome place (λ p. p < length ids.now)) }
 {
     let created = id_set(alloc, created)?;

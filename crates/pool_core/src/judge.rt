@@ -1,7 +1,11 @@
-ghost use Rattle.std.specs.Prelude.{◌≡◌, ◌+◌, ◌<◌, ◌≤◌, ◌^◌, true, [], length, IfOk, IfErr};
+ghost use Rattle.std.specs.Prelude.{◌≡◌, ◌+◌, ◌<◌, ◌≤◌, ◌^◌, true, [], length, IfOk, IfErr, IfSome};
 ghost use Rattle.std.specs.List.{list_all};
-ghost use Rattle.judge_spec.specs.Judgement.{Verdict, Broken, judgement, spend_by_spend};
-ghost use Rattle.judge_spec.specs.Judgement as judged;
+ghost use Rattle.chain_spec.specs.Chain.{look_up, ledger_of};
+ghost use Rattle.judge_spec.specs.Checks.{is_spent};
+ghost use Rattle.judge_spec.specs.Judgement.{judgement, terms_of};
+ghost use Rattle.pool_spec.specs.Payment.{is_payment};
+ghost use Rattle.pool_spec.specs.FirstJudgement.{Verdict, Broken, payment_verdict, spent_coin, spend_by_spend};
+ghost use Rattle.pool_spec.specs.FirstJudgement as judged;
 ghost use Rattle.judge_spec.specs.Rules.{number_of};
 ghost use Rattle.pool_core.specs.SpendPayments.{is_paying, payment_of, ArePayments};
 ghost use Rattle.pool_core.specs.Costs.{added_cost, grown_cost, HasCost};
@@ -12,14 +16,16 @@ use crate::fault::AdmitFault;
 use crate::ids::{created_ids, first_repeat, first_unknown, spent_ids};
 use crate::payment::{Payment, payments};
 use crate::sums::{created_amount, spent_amount};
-use block_form::{Spend, added_bytes};
+use block_form::{Bundle, Spend, added_bytes};
 use block_spec::EMPTY_GENERATOR_BYTES;
 use clvm_spec::costs::QUOTE_COST;
+use coin_facts::Hash32;
 use coin_store::Store;
 use cond_spec::costs::CREATE_COIN_COST;
 use judge_spec::Rule;
 use judge_spec::costs::BYTE_COST;
 use judge_spec::limits::GREATEST_MAX_COST;
+use pool_spec::Limits;
 use std::alloc::Global;
 
 // What a list without spends costs: the bytes of its generator.
@@ -102,20 +108,16 @@ fn list_cost(spends: &[Spend], payments: &[Payment], limit: u64) -> Result<u64, 
     Ok(cost)
 }
 
-/// The verdict on spends whose puzzles all pay: their cost and fee, or the first broken rule with its place.
-pub(crate) fn judge(
-    alloc: Global,
-    store: &Store,
-    spends: &[Spend],
-    limit: u64,
-) -> Result<Fine, AdmitFault>
+// What is found of spends whose puzzles all pay, before the chain is asked whether they are spent: their cost and fee, or
+// the first broken rule with its place.
+fn judge(alloc: Global, store: &Store, spends: &[Spend], limit: u64) -> Result<Fine, AdmitFault>
     requires limit { limit ≤ GREATEST_MAX_COST }
     requires few { length spends.now < 2 ^ 32 }
     requires pays { list_all is_paying spends.now ≡ true }
-    ensures ok { IfOk result (λ fine. judgement store.now spends.now limit ≡ judged.Fine fine.cost fine.fee) }
+    ensures ok { IfOk result (λ fine. payment_verdict store.now spends.now limit ≡ judged.Fine fine.cost fine.fee) }
     ensures small { IfOk result (λ fine. fine.fee < 2 ^ 96) }
     ensures positive { IfOk result (λ fine. 1 ≤ fine.cost) }
-    ensures err { IfErr result (IsRefusal (judgement store.now spends.now limit)) }
+    ensures err { IfErr result (IsRefusal (payment_verdict store.now spends.now limit)) }
 {
     let spent = spent_ids(alloc, spends)?;
     if let Some(place) = first_repeat(alloc, &spent)? {
@@ -137,4 +139,47 @@ pub(crate) fn judge(
     }
     let fee = spent_amount(spends).saturating_sub(created_amount(&payments));
     Ok(Fine { cost, fee })
+}
+
+fn is_spent(store: &Store, id: &Hash32) -> bool
+    ensures { result ≡ is_spent (look_up (ledger_of store.now) id.now) }
+{
+    match store.look_up(id) {
+        Some(record) => record.spent.is_some(),
+        None => false,
+    }
+}
+
+// The first spend of a coin that is spent in the chain.
+fn first_spent(store: &Store, spends: &[Spend]) -> Option<usize>
+    ensures value { result ≡ spent_coin store.now spends.now }
+    ensures within { IfSome result (λ p. p < length spends.now) }
+{
+    spends
+        .iter()
+        .position(|spend| is_spent(store, &spend.coin.id()))
+}
+
+/// The verdict on a payment: its cost and fee, or the first broken rule with its place.
+pub(crate) fn judge_payment(
+    alloc: Global,
+    store: &Store,
+    bundle: &Bundle,
+    limits: &Limits,
+) -> Result<Fine, AdmitFault>
+    requires payment { is_payment store.now bundle.now ≡ true }
+    ensures ok { IfOk result (λ fine. judgement (terms_of limits.now) (ledger_of store.now) bundle.now.spends bundle.now.attested ≡ judged.Fine fine.cost fine.fee) }
+    ensures small { IfOk result (λ fine. fine.fee < 2 ^ 96) }
+    ensures positive { IfOk result (λ fine. 1 ≤ fine.cost) }
+    ensures err { IfErr result (IsRefusal (judgement (terms_of limits.now) (ledger_of store.now) bundle.now.spends bundle.now.attested)) }
+{
+    let spends = bundle.spends.as_slice();
+    let fine = judge(alloc, store, spends, limits.max_cost)?;
+    match first_spent(store, spends) {
+        Some(place) => Err(AdmitFault::Refused {
+            rule: Rule::SpentInChain.number(),
+            place: place as u32,
+        }),
+        None => Ok(fine),
+    }
 }

@@ -10,7 +10,7 @@ ghost use Rattle.pool_core.specs.Admissions.{IsRefusedBy};
 use crate::fault::AdmitFault;
 use crate::ids::{are_new, created_ids, first_repeat};
 use crate::item::Item;
-use crate::judge::{Fine, judge};
+use crate::judge::{Fine, judge_payment};
 use crate::payment::{Payment, payments};
 use crate::sums::{created_amount, spent_amount};
 use block_form::{Bundle, Spend, bundle_id};
@@ -115,12 +115,7 @@ impl Pool {
         ensures stays { OnErr result (self.new ≡ self.old) }
     {
         let limits = self.limits;
-        let Fine { cost, fee } = judge(
-            alloc,
-            &self.store,
-            bundle.spends.as_slice(),
-            limits.max_cost,
-        )?;
+        let Fine { cost, fee } = judge_payment(alloc, &self.store, &bundle, &limits)?;
         if cost > limits.pool_cost {
             return Err(AdmitFault::Refused {
                 rule: Rule::PoolIsFull.number(),

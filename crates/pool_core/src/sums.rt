@@ -1,7 +1,7 @@
 //! What spends spend and payments make.
 ghost use Rattle.std.specs.Prelude.{◌≡◌, ◌<◌, ◌^◌, length};
 ghost use Rattle.std.specs.List.{sum_by, flat_map};
-ghost use Rattle.judge_spec.specs.Judgement.{spent_amounts};
+ghost use Rattle.pool_spec.specs.FirstJudgement.{spent_amounts};
 ghost use Rattle.pool_core.specs.PaymentSums.{paid_amounts};
 
 use crate::payment::Payment;

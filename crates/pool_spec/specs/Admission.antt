@@ -5,8 +5,9 @@ use Rattle.std.specs.List.{sum_by}
 use Rattle.coin_facts.specs.declared.hash32.Hash32.{Hash32}
 use Rattle.block_spec.specs.declared.bundle.Bundle.{Bundle}
 use Rattle.block_spec.specs.BundleTree.{bundle_id}
-use Rattle.chain_spec.specs.Chain.{Chain}
-use Rattle.judge_spec.specs.Judgement.{Verdict, Fine, Broken, cost_of, judgement}
+use Rattle.chain_spec.specs.Chain.{Chain, ledger_of}
+use Rattle.judge_spec.specs.Judgement.{Verdict, Fine, Broken, terms_of, judgement}
+use Rattle.pool_spec.specs.FirstJudgement.{cost_of}
 use Rattle.judge_spec.specs.declared.limits.Limits.{Limits}
 use Rattle.judge_spec.specs.declared.rule.Rule.TheVariants.{PoolIsFull}
 use Rattle.judge_spec.specs.Rules.{number_of}
@@ -37,7 +38,8 @@ admission_by state bundle (Broken rule place) = Refused rule place
 
 -- The bundle's spends are judged on the chain, and then the pool's capacity is looked at.
 abbrev pub admission : PoolState → Bundle → Admission
-admission state bundle = admission_by state bundle (judgement state.chain bundle.spends state.limits.max_cost)
+admission state bundle =
+    admission_by state bundle (judgement (terms_of state.limits) (ledger_of state.chain) bundle.spends bundle.attested)
 
 -- An admitted bundle goes last; a refusal changes nothing.
 abbrev pub state_after : PoolState → Bundle → Admission → PoolState

@@ -1,3 +1,6 @@
+pub mod FirstConditions
+pub mod FirstRuns
+pub mod FirstJudgement
 pub mod Payment
 pub mod Admission
 pub mod Step

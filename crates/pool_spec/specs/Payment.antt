@@ -7,9 +7,9 @@ use Rattle.block_spec.specs.declared.spend.Spend.{Spend}
 use Rattle.block_spec.specs.declared.bundle.Bundle.{Bundle}
 use Rattle.clvm_spec.specs.Spelled.{spelled_tree}
 use Rattle.clvm_spec.specs.Evaluation.{is_code}
-use Rattle.chain_spec.specs.Chain.{Chain, is_in_chain}
-use Rattle.judge_spec.specs.FirstConditions.{conditions_of}
-use Rattle.judge_spec.specs.Judgement.{created_ids, created_amounts, spent_amounts}
+use Rattle.chain_spec.specs.Chain.{Chain, is_in_chain, ledger_of}
+use Rattle.pool_spec.specs.FirstConditions.{conditions_of}
+use Rattle.pool_spec.specs.FirstJudgement.{created_ids, created_amounts, spent_amounts}
 use Rattle.coin_facts.specs.IdLists.{repeat_behind}
 
 -- a proper list of three
@@ -38,4 +38,4 @@ is_payment chain bundle =
     && list_all (λ spend. pays (spelled_tree spend.puzzle)) bundle.spends
     && creates_each_once bundle.spends
     && nat_le (created_amounts bundle.spends) (spent_amounts bundle.spends)
-    && list_all (λ id. not (is_in_chain chain id)) (created_ids bundle.spends)
+    && list_all (λ id. not (is_in_chain (ledger_of chain) id)) (created_ids bundle.spends)

@@ -3,7 +3,7 @@ use Rattle.std.specs.Prelude.{Option, Some, None}
 use Rattle.coin_facts.specs.declared.hash32.Hash32.{Hash32}
 use Rattle.block_spec.specs.declared.bundle.Bundle.{Bundle}
 use Rattle.chain_spec.specs.declared.chain.Record.{Record}
-use Rattle.chain_spec.specs.Chain.{look_up}
+use Rattle.chain_spec.specs.Chain.{look_up, ledger_of}
 use Rattle.pool_spec.specs.Admission.{PoolState, Admission, admission, after_admission}
 
 pub data Command : Type 0 where
@@ -25,7 +25,7 @@ coin_reply (Some found) = Found found
 -- the reply to a command
 abbrev pub reply_to : PoolState → Command → Reply
 reply_to state (Admit bundle) = Answered (admission state bundle)
-reply_to state (LookUp id) = coin_reply (look_up state.chain id)
+reply_to state (LookUp id) = coin_reply (look_up (ledger_of state.chain) id)
 
 -- the state after a command
 abbrev pub after : PoolState → Command → PoolState

@@ -8,7 +8,7 @@ use Rattle.coin_facts.specs.declared.hash32.Hash32.{Hash32}
 use Rattle.coin_facts.specs.declared.coin.Coin.{Coin}
 use Rattle.coin_facts.specs.CoinId.{coin_id}
 use Rattle.block_spec.specs.declared.bundle.Bundle.{Bundle}
-use Rattle.chain_spec.specs.Chain.{Chain, is_in_chain}
+use Rattle.chain_spec.specs.Chain.{Chain, is_in_chain, ledger_of}
 use Rattle.judge_spec.specs.declared.limits.Limits.{Limits}
 use Rattle.judge_spec.specs.declared.limits.TheConstants.{DEFAULT_MAX_COST, DEFAULT_POOL_COST}
 use Rattle.coin_facts.specs.declared.sizes.TheConstants.{HASH_BYTES}
@@ -46,7 +46,7 @@ header line = do
   version ← member (codes "session") one line
   genesis ← member (codes "genesis") hash line
   seconds ← member (codes "seconds") whole line
-  if has_defaults line then Some (record { genesis = genesis; seconds = seconds; coins = [] }) else None
+  if has_defaults line then Some (record { genesis = genesis; seconds = seconds; coins = []; blocks = [] }) else None
 
 abbrev pub coin_of : Data → Option Coin
 coin_of line = member (codes "coin") coin line
@@ -77,7 +77,7 @@ session chain bundle ids = record { chain = chain; limits = default_limits; comm
 abbrev pub start_coins : Chain → List Coin → Option Chain
 start_coins chain [] = Some chain
 start_coins chain (coin ∷ coins) =
-    if is_in_chain chain (coin_id coin) then None else start_coins (record chain { coins = chain.coins ++ coin ∷ [] }) coins
+    if is_in_chain (ledger_of chain) (coin_id coin) then None else start_coins (record chain { coins = chain.coins ++ coin ∷ [] }) coins
 
 abbrev pub if_payment : Chain → Bundle → List Hash32 → Option Session
 if_payment chain bundle ids = if is_payment chain bundle then Some (session chain bundle ids) else None

@@ -1,5 +1,5 @@
 use Rattle.std.proofs.Common.{◌≡◌, take}
-use Rattle.judge_spec.specs.Judgement.{spent_ids}
+use Rattle.pool_spec.specs.FirstJudgement.{spent_ids}
 use Rattle.pool_core.proofs.ids.spent_ids.Given as goal
 
 abbrev pub invariant-loop-spend : goal.invariant-loop-spend

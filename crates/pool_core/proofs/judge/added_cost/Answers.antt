@@ -2,7 +2,7 @@ use Rattle.std.proofs.Common.{◌≡◌, ◌+◌, ◌*◌, length, ap, ap₂, �
 use Rattle.clvm_spec.specs.declared.costs.TheConstants.{QUOTE_COST}
 use Rattle.cond_spec.specs.declared.costs.TheConstants.{CREATE_COIN_COST}
 use Rattle.judge_spec.specs.declared.costs.TheConstants.{BYTE_COST}
-use Rattle.judge_spec.specs.Judgement.{coins_made_by}
+use Rattle.pool_spec.specs.FirstJudgement.{coins_made_by}
 use Rattle.pool_core.proofs.PaymentLaws.{paying_cost}
 use Rattle.pool_core.proofs.judge.added_cost.Goals as goal
 

@@ -1,7 +1,7 @@
 use Rattle.std.proofs.Common.{◌≡◌, ℕ, ◌-◌, Option, None, [], ap, ap₂, sym, ◌∙◌}
 use Rattle.std.proofs.lemmas.Option.{MatchOption-at_some}
 use Rattle.judge_spec.specs.declared.rule.Rule.TheVariants.{UnknownCoin}
-use Rattle.judge_spec.specs.Judgement.{Verdict, Fine, Broken, unless_broken, spent_twice, unknown_coin, fee_of}
+use Rattle.pool_spec.specs.FirstJudgement.{Verdict, Fine, Broken, unless_broken, spent_twice, unknown_coin, fee_of}
 use Rattle.coin_facts.specs.IdLists.{repeat_behind}
 use Rattle.pool_core.specs.SpendPayments.{ArePayments}
 use Rattle.pool_core.specs.PaymentSums.{paid_ids, paid_amounts}

@@ -1,5 +1,5 @@
 use Rattle.std.proofs.Common.{sym, ◌∙◌, arith}
-use Rattle.judge_spec.specs.Judgement.{Fine}
+use Rattle.pool_spec.specs.FirstJudgement.{Fine}
 use Rattle.pool_core.proofs.CostLaws.{goes_on, stops}
 use Rattle.pool_core.proofs.judge.list_cost.Goals as goal
 

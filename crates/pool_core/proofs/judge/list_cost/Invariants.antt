@@ -2,7 +2,7 @@ use Rattle.std.proofs.Common.{◌≡◌, ◌+◌, ◌*◌, ◌≤◌, [], take, 
 use Rattle.block_spec.specs.declared.sizes.TheConstants.{EMPTY_GENERATOR_BYTES}
 use Rattle.judge_spec.specs.declared.costs.TheConstants.{BYTE_COST}
 use Rattle.judge_spec.specs.declared.limits.TheConstants.{GREATEST_MAX_COST}
-use Rattle.judge_spec.specs.Judgement.{Verdict, cost_of, spend_by_spend}
+use Rattle.pool_spec.specs.FirstJudgement.{Verdict, cost_of, spend_by_spend}
 use Rattle.pool_core.proofs.judge.list_cost.Given as goal
 
 abbrev pub invariant-loop-place : goal.invariant-loop-place

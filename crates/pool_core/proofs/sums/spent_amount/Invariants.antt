@@ -1,5 +1,5 @@
 use Rattle.std.proofs.Common.{◌≡◌, ◌-◌, ◌*◌, ◌^◌, ◌≤◌, take}
-use Rattle.judge_spec.specs.Judgement.{spent_amounts}
+use Rattle.pool_spec.specs.FirstJudgement.{spent_amounts}
 use Rattle.pool_core.proofs.sums.spent_amount.Given as goal
 
 abbrev pub invariant-loop-spend : goal.invariant-loop-spend

@@ -1,0 +1,102 @@
+-- Verdicts on lists of spends that break two neighbouring rules, computed: the lower one is told.
+use Rattle.std.proofs.Common.{◌≡◌, ℕ, ◌+◌, ◌*◌, Some, None, List, [], ◌∷◌, ◌++◌, map, replicate, refl}
+use Rattle.sha2.specs.Sha256.{sha256, digest_bytes, hash_after, compress, rounds, schedule, first_words}
+use Rattle.clvm_spec.specs.Tree.{Tree, Atom, Pair, nil, list_tree}
+use Rattle.clvm_spec.specs.Spelling.{spelling}
+use Rattle.clvm_spec.specs.Hashing.{tree_hash}
+use Rattle.clvm_spec.specs.Reading.{head_at, tree_at_front}
+use Rattle.clvm_spec.specs.Numbers.{without_sign_bytes, shortest_atom}
+use Rattle.clvm_spec.specs.OperatorTable.{applied, operator_of}
+use Rattle.clvm_spec.specs.Evaluation.{evaluation}
+use Rattle.coin_facts.specs.declared.hash32.Hash32.{Hash32}
+use Rattle.coin_facts.specs.declared.coin.Coin.{Coin}
+use Rattle.coin_facts.specs.CoinId.{coin_id}
+use Rattle.coin_facts.specs.Atoms.{number_atom}
+use Rattle.block_spec.specs.declared.spend.Spend.{Spend}
+use Rattle.block_spec.specs.declared.attested.Signed.{Signed}
+use Rattle.chain_spec.specs.declared.chain.Record.{Record}
+use Rattle.chain_spec.specs.Chain.{Ledger}
+use Rattle.cond_spec.specs.declared.codes.TheConstants.{AGG_SIG_UNSAFE, CREATE_COIN, RESERVE_FEE, CREATE_COIN_ANNOUNCEMENT, ASSERT_COIN_ANNOUNCEMENT, ASSERT_PUZZLE_ANNOUNCEMENT, ASSERT_CONCURRENT_SPEND, ASSERT_CONCURRENT_PUZZLE, SEND_MESSAGE, RECEIVE_MESSAGE, ASSERT_MY_COIN_ID, ASSERT_MY_PARENT_ID, ASSERT_MY_PUZZLEHASH, ASSERT_MY_AMOUNT, ASSERT_MY_BIRTH_SECONDS, ASSERT_MY_BIRTH_HEIGHT, ASSERT_EPHEMERAL, ASSERT_SECONDS_RELATIVE, ASSERT_SECONDS_ABSOLUTE, ASSERT_HEIGHT_RELATIVE, ASSERT_HEIGHT_ABSOLUTE, ASSERT_BEFORE_SECONDS_RELATIVE, ASSERT_BEFORE_SECONDS_ABSOLUTE, ASSERT_BEFORE_HEIGHT_RELATIVE, ASSERT_BEFORE_HEIGHT_ABSOLUTE}
+use Rattle.cond_spec.specs.Conditions.{conditions_of}
+use Rattle.cond_spec.proofs.ConditionRows.{bytes32, hash, key, text, condition}
+use Rattle.judge_spec.specs.Facts.{facts_of}
+use Rattle.judge_spec.specs.Judgement.{Verdict, Fine, Broken, judgement}
+use Rattle.judge_spec.proofs.RowParts.{quoting, spend_by, asks, ledger, there, gone, verdict, on_chain, number, hash_operand, pays, wrong_amount, other_birth, early, late, unmade, absent, ephemeral, sends, receives, reserves, signs, malformed, unknown, fails, wide, other_puzzle, makes, spends_made, both, made_and_signs, coin_of_signs}
+
+-- ---- two at once
+
+rules_2_and_3 : on_chain (other_puzzle (asks ((pays 900) ∷ [])) ∷ other_puzzle (asks ((pays 900) ∷ [])) ∷ []) ≡ Broken 2 1
+unfolding judgement facts_of conditions_of evaluation head_at tree_at_front without_sign_bytes shortest_atom sha256 digest_bytes hash_after compress rounds schedule first_words
+rules_2_and_3 = refl
+
+rules_3_and_4 : on_chain (record (spend_by nil 1000) { puzzle = spelling fails } ∷ []) ≡ Broken 3 0
+unfolding judgement facts_of conditions_of evaluation applied operator_of head_at tree_at_front without_sign_bytes shortest_atom sha256 digest_bytes hash_after compress rounds schedule first_words
+rules_3_and_4 = refl
+
+rules_4_and_5 : verdict 1 [] (spend_by fails 1000 ∷ []) ≡ Broken 4 0
+unfolding judgement facts_of conditions_of evaluation applied operator_of head_at tree_at_front without_sign_bytes shortest_atom sha256 digest_bytes hash_after compress rounds schedule first_words
+rules_4_and_5 = refl
+
+rules_5_and_6_of_two : verdict 500_000 [] (asks ([]) ∷ spend_by wide 1000 ∷ []) ≡ Broken 5 0
+unfolding judgement facts_of conditions_of evaluation applied operator_of head_at tree_at_front without_sign_bytes shortest_atom sha256 digest_bytes hash_after compress rounds schedule first_words
+rules_5_and_6_of_two = refl
+
+rules_6_and_7_of_two : on_chain (spend_by wide 1000 ∷ asks (malformed ∷ []) ∷ []) ≡ Broken 6 0
+unfolding judgement facts_of conditions_of evaluation applied operator_of head_at tree_at_front without_sign_bytes shortest_atom sha256 digest_bytes hash_after compress rounds schedule first_words
+rules_6_and_7_of_two = refl
+
+rules_9_and_10 : on_chain (asks (wrong_amount ∷ pays 7 ∷ pays 7 ∷ []) ∷ []) ≡ Broken 9 0
+unfolding judgement facts_of conditions_of evaluation head_at tree_at_front without_sign_bytes shortest_atom sha256 digest_bytes hash_after compress rounds schedule first_words
+rules_9_and_10 = refl
+
+rules_10_and_11 : verdict 11_000_000_000 [] (asks (wrong_amount ∷ []) ∷ []) ≡ Broken 10 0
+unfolding judgement facts_of conditions_of evaluation head_at tree_at_front without_sign_bytes shortest_atom sha256 digest_bytes hash_after compress rounds schedule first_words
+rules_10_and_11 = refl
+
+rules_11_and_12_of_two : verdict 11_000_000_000 (gone (asks ([])) ∷ []) (asks ([]) ∷ asks (ephemeral ∷ []) ∷ []) ≡ Broken 11 1
+unfolding judgement facts_of conditions_of evaluation head_at tree_at_front without_sign_bytes shortest_atom sha256 digest_bytes hash_after compress rounds schedule first_words
+rules_11_and_12_of_two = refl
+
+rules_12_and_13 : verdict 11_000_000_000 (gone (asks (other_birth ∷ [])) ∷ []) (asks (other_birth ∷ []) ∷ []) ≡ Broken 12 0
+unfolding judgement facts_of conditions_of evaluation head_at tree_at_front without_sign_bytes shortest_atom sha256 digest_bytes hash_after compress rounds schedule first_words
+rules_12_and_13 = refl
+
+rules_13_and_14 : on_chain (asks (early ∷ other_birth ∷ []) ∷ []) ≡ Broken 13 0
+unfolding judgement facts_of conditions_of evaluation head_at tree_at_front without_sign_bytes shortest_atom sha256 digest_bytes hash_after compress rounds schedule first_words
+rules_13_and_14 = refl
+
+rules_14_and_15 : on_chain (asks (late ∷ early ∷ []) ∷ []) ≡ Broken 14 0
+unfolding judgement facts_of conditions_of evaluation head_at tree_at_front without_sign_bytes shortest_atom sha256 digest_bytes hash_after compress rounds schedule first_words
+rules_14_and_15 = refl
+
+rules_15_and_16 : on_chain (asks (unmade ∷ late ∷ []) ∷ []) ≡ Broken 15 0
+unfolding judgement facts_of conditions_of evaluation head_at tree_at_front without_sign_bytes shortest_atom sha256 digest_bytes hash_after compress rounds schedule first_words
+rules_15_and_16 = refl
+
+rules_16_and_17 : on_chain (asks (absent ∷ unmade ∷ []) ∷ []) ≡ Broken 16 0
+unfolding judgement facts_of conditions_of evaluation head_at tree_at_front without_sign_bytes shortest_atom sha256 digest_bytes hash_after compress rounds schedule first_words
+rules_16_and_17 = refl
+
+rules_17_and_18 : on_chain (asks (ephemeral ∷ absent ∷ []) ∷ []) ≡ Broken 17 0
+unfolding judgement facts_of conditions_of evaluation head_at tree_at_front without_sign_bytes shortest_atom sha256 digest_bytes hash_after compress rounds schedule first_words
+rules_17_and_18 = refl
+
+rules_18_and_19 : on_chain (asks (sends ∷ ephemeral ∷ []) ∷ []) ≡ Broken 18 0
+unfolding judgement facts_of conditions_of evaluation head_at tree_at_front without_sign_bytes shortest_atom sha256 digest_bytes hash_after compress rounds schedule first_words
+rules_18_and_19 = refl
+
+rules_19_and_20 : on_chain (asks (pays 1001 ∷ sends ∷ []) ∷ []) ≡ Broken 19 0
+unfolding judgement facts_of conditions_of evaluation head_at tree_at_front without_sign_bytes shortest_atom sha256 digest_bytes hash_after compress rounds schedule first_words
+rules_19_and_20 = refl
+
+rules_20_and_21 : on_chain (asks (pays 1001 ∷ reserves 1 ∷ []) ∷ []) ≡ Broken 20 1
+unfolding judgement facts_of conditions_of evaluation head_at tree_at_front without_sign_bytes shortest_atom sha256 digest_bytes hash_after compress rounds schedule first_words
+rules_20_and_21 = refl
+
+rules_21_and_22 : on_chain (asks (signs ∷ reserves 1001 ∷ []) ∷ []) ≡ Broken 21 1
+unfolding judgement facts_of conditions_of evaluation head_at tree_at_front without_sign_bytes shortest_atom sha256 digest_bytes hash_after compress rounds schedule first_words
+rules_21_and_22 = refl
+
+rules_22_and_23 : verdict 11_000_000_000 (there made_and_signs ∷ record { coin = coin_of_signs; height = 4; seconds = 400; spent = None } ∷ []) (made_and_signs ∷ []) ≡ Broken 22 0
+unfolding judgement facts_of conditions_of evaluation head_at tree_at_front without_sign_bytes shortest_atom sha256 digest_bytes hash_after compress rounds schedule first_words
+rules_22_and_23 = refl

@@ -1,0 +1,35 @@
+//! Laws of the definitions. Each is the contract of a function that does nothing.
+ghost use Rattle.judge_spec.specs.JudgeLaws.{FactsKeep, FactsOrSpent, FactsDecide, FirstIsTold, NoneIsTold, AttestedIsASet, FineIsKept, FineIsWithinTheLimit, NewCoinsLast};
+
+/// More of a limit keeps facts, and less of it finds the same or is spent.
+pub fn facts_keep()
+    ensures more { FactsKeep }
+    ensures less { FactsOrSpent }
+{}
+
+/// Facts that were found with a greater limit give the verdict.
+pub fn facts_decide()
+    ensures { FactsDecide }
+{}
+
+/// The first broken rule is told.
+pub fn first_is_told()
+    ensures broken { FirstIsTold }
+    ensures kept { NoneIsTold }
+{}
+
+/// What is attested is a set.
+pub fn attested_is_a_set()
+    ensures { AttestedIsASet }
+{}
+
+/// A Fine verdict tells the cost and the fee, breaks no rule, and is within the limit where there is a spend.
+pub fn fine_is_sound()
+    ensures kept { FineIsKept }
+    ensures within { FineIsWithinTheLimit }
+{}
+
+/// Created ids are looked up last.
+pub fn new_coins_last()
+    ensures { NewCoinsLast }
+{}
