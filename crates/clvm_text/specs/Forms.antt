@@ -1,4 +1,4 @@
--- What a form that is read stands for. This project's own.
+-- What a form that is read stands for. Source: this project's own.
 use Rattle.std.specs.Prelude.{◌≡◌, ℕ, ◌+◌, ◌≤◌, List, length, drop}
 use Rattle.clvm_spec.specs.Tree.{Tree}
 use Rattle.clvm_spec.specs.Text.{Named, Names}

@@ -1,4 +1,4 @@
--- How a text is read on, where lists are open. This project's own.
+-- How a text is read on, where lists are open. Source: this project's own.
 use Rattle.std.specs.Prelude.{◌≡◌, ℕ, ◌+◌, ◌≤◌, List, [], ◌∷◌, drop, Option, Some, None}
 use Rattle.clvm_spec.specs.declared.scan_kind.ScanKind.{ScanKind}
 use Rattle.clvm_spec.specs.Tree.{Tree}

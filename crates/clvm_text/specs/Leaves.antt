@@ -1,4 +1,4 @@
--- The tokens that are forms by themselves. This project's own.
+-- The tokens that are forms by themselves. Source: this project's own.
 use Rattle.std.specs.Prelude.{ℕ, List, drop}
 use Rattle.clvm_spec.specs.Tokens.{Token}
 use Rattle.clvm_spec.specs.Text.{Named, clvm}

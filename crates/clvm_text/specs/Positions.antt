@@ -1,4 +1,4 @@
--- Where a node stands that is to be printed. This project's own.
+-- Where a node stands that is to be printed. Source: this project's own.
 use Rattle.clvm_spec.specs.Text as text
 use Rattle.clvm_text.specs.declared.printer.Position.{Position}
 use Rattle.clvm_text.specs.declared.printer.Position.TheVariants.{Head, Alone, Rest}

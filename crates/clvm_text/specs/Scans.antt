@@ -1,4 +1,4 @@
--- What scanning answers. This project's own.
+-- What scanning answers. Source: this project's own.
 use Rattle.std.specs.Prelude.{◌≡◌, List, length, ℕ}
 use Rattle.clvm_spec.specs.Tree.{Tree}
 use Rattle.clvm_spec.specs.Grammar.{Parses}

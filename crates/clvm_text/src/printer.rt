@@ -1,3 +1,5 @@
+//! Printing: the text of a tree.
+
 ghost use Rattle.std.specs.Prelude.{◌≡◌, ◌+◌, ◌<◌, ◌≤◌, ◌++◌, length, Option, Some, None, IfOk, IfErr, OnOk, string_bytes, string_len, vec_len, codes, if◌then◌else◌};
 ghost use Rattle.clvm_spec.specs.Tree.{Tree, Atom};
 ghost use Rattle.clvm_spec.specs.Numbers.{number};

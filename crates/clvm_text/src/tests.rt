@@ -1,3 +1,5 @@
+//! Rows of printing and scanning, and faults at their places.
+
 ghost use Rattle.std.specs.Prelude.{◌≤◌, length};
 
 use crate::{ScanKind, TextFault, print, scan};
