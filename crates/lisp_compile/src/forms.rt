@@ -19,7 +19,11 @@ fn only_behind<'s>(name: &[u8], form: &'s Form) -> Option<&'s Form>
     ensures { MatchOption result (only_behind name.now (form_of form.now) ≡ None) (λ e. only_behind name.now (form_of form.now) ≡ Some (form_of e.now)) }
 {
     let (head, rest) = form.as_pair()?;
-    if head.is_symbol(name) { rest.only() } else { None }
+    if head.is_symbol(name) {
+        rest.only()
+    } else {
+        None
+    }
 }
 
 // The template of `(qq TEMPLATE)`.

@@ -28,8 +28,10 @@ fn chooses_one_of_two(rt: HostRuntime) -> Result<(), Fail> {
     let then_part = fail(alloc, &mut trees)?;
     let else_part = quote_atom(alloc, &mut trees, b"\x07")?;
     let code = choice(alloc, &mut trees, test, then_part, else_part)?;
-    assert!(rt; trees.write(alloc, code, 100)?.as_slice()
-        == b"\xff\x02\xff\xff\x03\xff\x02\xff\xff\x01\xff\x08\x80\xff\xff\x01\xff\x01\x07\x80\xff\x01\x80".as_slice());
+    assert!(rt;
+        trees.write(alloc, code, 100)?.as_slice()
+            == b"\xff\x02\xff\xff\x03\xff\x02\xff\xff\x01\xff\x08\x80\xff\xff\x01\xff\x01\x07\x80\xff\x01\x80".as_slice()
+    );
     Ok(())
 }
 
