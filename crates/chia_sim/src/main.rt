@@ -14,9 +14,9 @@ mod report;
 mod run;
 mod session;
 mod stop;
-mod tools;
 #[cfg(test)]
 mod tests;
+mod tools;
 
 use ports_io::{FolderLibrary, InputSource, OpenGate, OutputSink};
 use run::run;

@@ -128,7 +128,14 @@ impl State {
         ensures fault { IfErr result (IsRunFault trees.new (outcome_of trees.old self.old (step.Open frame))) }
     {
         let start = self.operands.len() - frame.count as usize;
-        match answer(alloc, trees, ops, frame.code, &self.operands[start..], self.left) {
+        match answer(
+            alloc,
+            trees,
+            ops,
+            frame.code,
+            &self.operands[start..],
+            self.left,
+        ) {
             Ok(answer) => {
                 self.take_answer(start, answer);
                 Ok(self.give(trees, answer.value))

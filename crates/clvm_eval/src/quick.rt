@@ -12,8 +12,7 @@ ghost use Rattle.clvm_tree.specs.Operators.{trees_at, outcome_by};
 ghost use Rattle.clvm_eval.specs.Quick.{IsQuickOrNone, Quickly, IsNumber};
 
 use crate::evaluate::is_nil;
-use clvm_spec::costs;
-use clvm_spec::{number_length, op_codes};
+use clvm_spec::{costs, number_length, op_codes};
 use clvm_tree::{Answer, Fuel, Node, Trees, number};
 use std::alloc::Global;
 
@@ -232,12 +231,7 @@ fn sum_of(alloc: Global, trees: &mut Trees, operands: &[Node], left: Fuel) -> Op
     new_number(alloc, trees, sum, cost, left)
 }
 
-fn difference_of(
-    alloc: Global,
-    trees: &mut Trees,
-    operands: &[Node],
-    left: Fuel,
-) -> Option<Answer>
+fn difference_of(alloc: Global, trees: &mut Trees, operands: &[Node], left: Fuel) -> Option<Answer>
     requires known { AreKnown trees.old operands.now }
     requires fits { length trees.old + left.pairs + left.bytes < 2 ^ 31 }
     ensures { Quickly trees.old trees.new left (difference_of DIFFERENCE_COST (trees_at trees.old operands.now)) result }
