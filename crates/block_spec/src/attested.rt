@@ -2,6 +2,7 @@ ghost use Rattle.std.specs.Prelude.{◌≡◌, ◌+◌, ◌<◌, ◌^◌, ◌↔
 ghost use Rattle.block_spec.specs.Attestable.{IsAttestable, AreAttestable};
 
 use coin_facts::{Bytes, OutOfMemory};
+use small_lists::ShortList;
 use std::alloc::Global;
 use std::marker::Model;
 
@@ -16,19 +17,19 @@ pub struct Signed {
 /// 67,108,864.
 #[derive(Debug, Drop)]
 pub struct Attested {
-    items: Vec<Signed>,
+    list: ShortList<Signed>,
 }
 
 impl Model for Attested {
-    ghost use Rattle.std.specs.Prelude.{◌<◌, ◌^◌, List, length};
+    ghost use Rattle.std.specs.Prelude.{List};
     ghost use Rattle.block_spec.specs.declared.attested.Signed.{Signed};
     ghost use Rattle.block_spec.specs.Attestable.{AreAttestable};
 
     ghost Value = { List Signed };
 
-    ghost view = { λ attested. attested.items.items };
+    ghost view = { λ attested. attested.list };
 
-    ghost invariant = { λ attested. (length attested.items.items < 2 ^ 32) × AreAttestable attested.items.items };
+    ghost invariant = { λ attested. AreAttestable attested.list };
 }
 
 impl Attested {
@@ -37,26 +38,25 @@ impl Attested {
         ensures { result ≡ [] }
     {
         Attested {
-            items: Vec::new(alloc),
+            list: ShortList::new(alloc),
         }
     }
 
     /// Adds a message at the end. Without memory nothing changes.
-    pub fn push(&mut self, _alloc: Global, signed: Signed) -> Result<(), OutOfMemory>
+    pub fn push(&mut self, alloc: Global, signed: Signed) -> Result<(), OutOfMemory>
         requires few { length self.old + 1 < 2 ^ 32 }
         requires attestable { IsAttestable signed }
         ensures ok { OnOk result (self.new ≡ self.old ++ signed ∷ []) }
         ensures out_of_memory { OnErr result (self.new ≡ self.old) }
     {
-        self.items.push(signed)?;
-        Ok(())
+        self.list.push(alloc, signed)
     }
 
     /// Whether one more has room.
     pub fn has_room(&self) -> bool
         ensures { IsTrue result ↔ (length self.now + 1 < 2 ^ 32) }
     {
-        self.items.len() < u32::MAX as usize
+        self.list.has_room()
     }
 
     /// The messages, lent.
@@ -65,6 +65,6 @@ impl Attested {
         ensures few { length self.now < 2 ^ 32 }
         ensures attestable { AreAttestable self.now }
     {
-        self.items.as_slice()
+        self.list.as_slice()
     }
 }

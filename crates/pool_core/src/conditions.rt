@@ -10,11 +10,11 @@ ghost use Rattle.pool_spec.specs.Payment.{is_triple};
 ghost use Rattle.pool_core.specs.Payments.{paid_coin, paid_coins};
 ghost use Rattle.pool_core.specs.Triples.{IsTripleOf};
 
-use crate::coin_list::CoinList;
 use crate::operands::{amount_of, hash_of};
 use clvm_tree::{Node, Trees};
 use coin_facts::{Coin, Hash32, OutOfMemory};
 use cond_spec::codes::CREATE_COIN;
+use small_lists::ShortList;
 use std::alloc::Global;
 
 // Whether a node is the atom of this one byte.
@@ -95,11 +95,11 @@ pub(crate) fn coins(
     trees: &Trees,
     value: Node,
     parent: Hash32,
-) -> Result<Option<CoinList>, OutOfMemory>
+) -> Result<Option<ShortList<Coin>>, OutOfMemory>
     requires { IsKnown trees.now value.0 }
     ensures { IfOk result (λ found. found ≡ paid_coins parent (tree_at trees.now value.0)) }
 {
-    let mut coins = CoinList::new(alloc);
+    let mut coins = ShortList::new(alloc);
     let mut rest = value;
     while let Some((condition, next)) = trees.as_pair(rest) {
         let Some(coin) = coin(trees, condition, parent) else {

@@ -1,7 +1,6 @@
 //! The pool of one thread: bundles are judged on the chain and admitted.
 #![tactic(auto)]
 
-mod coin_list;
 mod conditions;
 mod fault;
 mod ids;

@@ -3,11 +3,11 @@ ghost use Rattle.std.specs.List.{list_all};
 ghost use Rattle.clvm_tree.specs.Nodes.{tree_at, IsKnown};
 ghost use Rattle.pool_core.specs.SpendPayments.{payment_at, is_paying, IsPayment, ArePayments};
 
-use crate::coin_list::CoinList;
 use crate::conditions::{coins, is_code};
 use block_form::Spend;
 use clvm_tree::{Node, ReadFault, Trees};
 use coin_facts::{Coin, Hash32, OutOfMemory};
+use small_lists::ShortList;
 use std::alloc::Global;
 
 const QUOTE: u8 = 1;
@@ -16,7 +16,7 @@ const QUOTE: u8 = 1;
 #[derive(Debug, Drop)]
 pub(crate) struct Payment {
     pub(crate) puzzle_hash: Hash32,
-    pub(crate) created: CoinList,
+    pub(crate) created: ShortList<Coin>,
 }
 
 // The payment of a puzzle that is read, None where it is none.
