@@ -1,14 +1,14 @@
 //! A step of evaluation: a path, a quoted value, or the begin of an operator form.
 
-ghost use Rattle.std.specs.Prelude.{◌≡◌, ℕ, ◌+◌, ◌<◌, ◌≤◌, None, IfOk, OnOk};
+ghost use Rattle.std.specs.Prelude.{◌≡◌, ℕ, ◌+◌, ◌<◌, ◌≤◌, Some, None, IfOk, OnOk};
 ghost use Rattle.clvm_spec.specs.Tree.{Atom};
-ghost use Rattle.clvm_spec.specs.Evaluation.{is_byte, is_too_deep, evaluation};
+ghost use Rattle.clvm_spec.specs.Evaluation.{is_code, is_too_deep, evaluation};
 ghost use Rattle.clvm_spec.specs.Operators.{is_nil};
-ghost use Rattle.clvm_tree.specs.Nodes.{tree_at, IsKnown, HasParts};
+ghost use Rattle.clvm_tree.specs.Nodes.{tree_at, IsKnown, HasParts, single_byte};
 ghost use Rattle.clvm_eval.specs.declared.state.Step.TheVariants as step;
 ghost use Rattle.clvm_eval.specs.Steps.{IsState, IsOpen, outcome_with, outcome_of, Begins, IsForm, AddsOperands, StepsTo};
 
-use crate::path::{cost_of_path, follow};
+use crate::path::{cost_of_byte, cost_of_path, follow, follow_byte};
 use crate::state::{Frame, State, Step, pay};
 use crate::{RunFault, Why};
 use clvm_spec::costs::{FORM_COST, QUOTE_COST};
@@ -24,17 +24,20 @@ pub(crate) enum Begun {
     Form(Node, Node),
 }
 
-/// Whether an atom is this one byte.
-pub(crate) fn is_byte(code: u8, bytes: &[u8]) -> bool
-    ensures { result ≡ is_byte code bytes.now }
+/// Whether the node is the atom of this one byte.
+#[inline]
+pub(crate) fn is_code(trees: &Trees, code: u8, node: Node) -> bool
+    requires { IsKnown trees.now node.0 }
+    ensures { result ≡ is_code code (tree_at trees.now node.0) }
 {
-    match bytes {
-        [byte] => *byte == code,
-        _ => false,
+    match trees.byte_of(node) {
+        Some(byte) => byte == code,
+        None => false,
     }
 }
 
 /// Looks at a program, and evaluates it where that takes no operator.
+#[inline]
 pub(crate) fn begin(
     trees: &Trees,
     left: &mut Fuel,
@@ -45,6 +48,9 @@ pub(crate) fn begin(
     requires env_known { IsKnown trees.now env.0 }
     ensures { Begins trees.now program.0 env.0 left.old left.new result }
 {
+    if let Some(path) = trees.byte_of(program) {
+        return evaluate_byte(trees, left, path, program, env);
+    }
     match trees.look(program) {
         Sight::Bytes(path) => evaluate_path(trees, left, path, program, env),
         Sight::Parts(head, rest) => begin_pair(trees, left, head, rest, program, env),
@@ -52,6 +58,30 @@ pub(crate) fn begin(
 }
 
 // A step's failure comes before its lack of cost.
+#[inline]
+fn evaluate_byte(
+    trees: &Trees,
+    left: &mut Fuel,
+    path: u8,
+    program: Node,
+    env: Node,
+) -> Result<Begun, RunFault>
+    requires program_known { IsKnown trees.now program.0 }
+    requires env_known { IsKnown trees.now env.0 }
+    requires path { single_byte (tree_at trees.now program.0) ≡ Some path }
+    ensures { Begins trees.now program.0 env.0 left.old left.new result }
+{
+    let Some(at) = follow_byte(trees, path, env) else {
+        return Err(RunFault::Failed(Why::Path, program));
+    };
+    if !pay(left, cost_of_byte(path, at.steps) as u128) {
+        return Err(RunFault::Spent(Which::Cost));
+    }
+    Ok(Begun::Value(at.node))
+}
+
+// The same of a path of no byte or of several.
+#[inline(never)]
 fn evaluate_path(
     trees: &Trees,
     left: &mut Fuel,
@@ -73,6 +103,7 @@ fn evaluate_path(
     Ok(Begun::Value(at.node))
 }
 
+#[inline]
 fn begin_pair(
     trees: &Trees,
     left: &mut Fuel,
@@ -87,16 +118,16 @@ fn begin_pair(
     ensures { Begins trees.now program.0 env.0 left.old left.new result }
 {
     let _env = env;
-    let Sight::Bytes(code) = trees.look(head) else {
-        return Err(RunFault::Failed(Why::Operator, program));
-    };
-    if !is_byte(QUOTE, code) {
-        return Ok(Begun::Form(head, rest));
+    if is_code(trees, QUOTE, head) {
+        if !pay(left, QUOTE_COST as u128) {
+            return Err(RunFault::Spent(Which::Cost));
+        }
+        return Ok(Begun::Value(rest));
     }
-    if !pay(left, QUOTE_COST as u128) {
-        return Err(RunFault::Spent(Which::Cost));
+    match trees.as_pair(head) {
+        Some(_) => Err(RunFault::Failed(Why::Operator, program)),
+        None => Ok(Begun::Form(head, rest)),
     }
-    Ok(Begun::Value(rest))
 }
 
 /// Whether the node is the empty atom.

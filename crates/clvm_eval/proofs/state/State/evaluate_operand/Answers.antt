@@ -1,4 +1,4 @@
-use Rattle.std.proofs.Common.{◌≡◌, ◌+◌, ◌-◌, suc, length, refl, sym, subst, arith}
+use Rattle.std.proofs.Common.{suc, length, refl, sym, subst}
 use Rattle.std.proofs.lemmas.Result.{err_from_is_err_and}
 use Rattle.clvm_spec.specs.Evaluation.{evaluation}
 use Rattle.clvm_tree.specs.Nodes.{tree_at}
