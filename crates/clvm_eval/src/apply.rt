@@ -39,6 +39,7 @@ fn fault_in(form: Node, fault: OpFault) -> RunFault
 
 impl State {
     /// Goes on with the first operand as the program and the second as the environment, at the form's depth.
+    #[inline(always)]
     pub(crate) fn run_operand(&mut self, trees: &Trees, frame: Frame) -> Result<Step, RunFault>
         requires opened { IsOpen trees.now self.old frame }
         requires ready { frame.programs ≡ 0 }
@@ -60,6 +61,7 @@ impl State {
 
     // Takes the operands away, and what the answer uses.
     #[tactic(auto, using(clvm_spec::proofs::SpendingLaws::covers))]
+    #[inline(always)]
     fn take_answer(&mut self, start: usize, answer: Answer)
         requires within { IsWithin self.old.left answer }
         ensures { TakesAnswer start answer self.old self.new }
@@ -88,13 +90,7 @@ impl State {
         ensures fault { IfErr result (IsRunFault trees.new (outcome_of trees.old self.old (step.Open frame))) }
     {
         let start = self.operands.len() - frame.count as usize;
-        match ops.apply(
-            alloc,
-            trees,
-            frame.code,
-            &self.operands[start..],
-            self.left,
-        ) {
+        match ops.apply(alloc, trees, frame.code, &self.operands[start..], self.left) {
             Ok(answer) => {
                 self.take_answer(start, answer);
                 Ok(self.give(trees, answer.value))
@@ -103,7 +99,7 @@ impl State {
         }
     }
     /// Applies an operator to its operands, at once where that can be told, else by the table.
-    #[inline]
+    #[inline(always)]
     pub(crate) fn operate<O: Operators>(
         &mut self,
         alloc: Global,
@@ -120,13 +116,7 @@ impl State {
         ensures fault { IfErr result (IsRunFault trees.new (outcome_of trees.old self.old (step.Open frame))) }
     {
         let start = self.operands.len() - frame.count as usize;
-        match quick(
-            alloc,
-            trees,
-            frame.code,
-            &self.operands[start..],
-            self.left,
-        ) {
+        match quick(alloc, trees, frame.code, &self.operands[start..], self.left) {
             Some(answer) => {
                 self.take_answer(start, answer);
                 Ok(self.give(trees, answer.value))

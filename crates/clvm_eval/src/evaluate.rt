@@ -25,7 +25,7 @@ pub(crate) enum Begun {
 }
 
 /// Whether the node is the atom of this one byte.
-#[inline]
+#[inline(always)]
 pub(crate) fn is_code(trees: &Trees, code: u8, node: Node) -> bool
     requires { IsKnown trees.now node.0 }
     ensures { result ≡ is_code code (tree_at trees.now node.0) }
@@ -37,7 +37,7 @@ pub(crate) fn is_code(trees: &Trees, code: u8, node: Node) -> bool
 }
 
 /// Looks at a program, and evaluates it where that takes no operator.
-#[inline]
+#[inline(always)]
 pub(crate) fn begin(
     trees: &Trees,
     left: &mut Fuel,
@@ -58,7 +58,7 @@ pub(crate) fn begin(
 }
 
 // A step's failure comes before its lack of cost.
-#[inline]
+#[inline(always)]
 fn evaluate_byte(
     trees: &Trees,
     left: &mut Fuel,
@@ -103,7 +103,7 @@ fn evaluate_path(
     Ok(Begun::Value(at.node))
 }
 
-#[inline]
+#[inline(always)]
 fn begin_pair(
     trees: &Trees,
     left: &mut Fuel,
@@ -139,6 +139,7 @@ pub(crate) fn is_nil(trees: &Trees, node: Node) -> bool
 }
 
 // Adds the elements of a list, and tells how many there are, None where nil doesn't end it.
+#[inline(always)]
 fn add_operands(
     operands: &mut Vec<Node>,
     trees: &Trees,
@@ -170,6 +171,7 @@ fn is_too_deep(count: u32, depth: usize, limit: u32) -> bool
 
 impl State {
     /// Opens a form: its operands are programs that are evaluated before its operator is applied.
+    #[inline(always)]
     fn open_form(
         &mut self,
         trees: &Trees,
@@ -204,6 +206,7 @@ impl State {
     }
 
     /// Evaluates a program whose value the innermost form awaits, or opens it where it's a form.
+    #[inline(always)]
     pub(crate) fn evaluate(
         &mut self,
         trees: &Trees,
@@ -222,6 +225,7 @@ impl State {
     }
 
     /// Evaluates the last operand of the open form that is a program yet, or opens it where it's a form.
+    #[inline(always)]
     pub(crate) fn evaluate_operand(&mut self, trees: &Trees, frame: Frame) -> Result<Step, RunFault>
         requires opened { IsOpen trees.now self.old frame }
         requires some { 0 < frame.programs }

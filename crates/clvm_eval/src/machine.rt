@@ -16,6 +16,7 @@ use std::alloc::Global;
 
 impl State {
     // Goes on with the open form.
+    #[inline(always)]
     fn go_on<O: Operators>(
         &mut self,
         alloc: Global,

@@ -19,6 +19,7 @@ pub struct Place {
 }
 
 // One step on, by a bit: 0 to the first, 1 to the rest. None at an atom.
+#[inline(always)]
 fn step(trees: &Trees, from: Place, bit: u32) -> Option<Place>
     requires known { IsKnown trees.now from.node.0 }
     requires few { from.node.0 + from.steps < 2 ^ 32 }
@@ -34,6 +35,7 @@ fn step(trees: &Trees, from: Place, bit: u32) -> Option<Place>
 }
 
 // Follows the bits below the highest set one, from the lowest up.
+#[inline(always)]
 fn descend(trees: &Trees, from: Place, bits: u32) -> Option<Place>
     requires known { IsKnown trees.now from.node.0 }
     requires few { from.node.0 + from.steps < 2 ^ 32 }
@@ -74,7 +76,7 @@ pub fn follow(trees: &Trees, path: &[u8], env: Node) -> Option<Place>
 }
 
 /// Where a path of one byte leads.
-#[inline]
+#[inline(always)]
 pub(crate) fn follow_byte(trees: &Trees, path: u8, env: Node) -> Option<Place>
     requires { IsKnown trees.now env.0 }
     ensures { MatchOption result (path_value (path ∷ []) (tree_at trees.now env.0) ≡ Astray) (IsReached trees.now (path ∷ []) (tree_at trees.now env.0)) }
@@ -103,7 +105,7 @@ pub fn cost_of_path(path: &[u8], steps: u32) -> u128
 }
 
 /// What it costs to follow a path of one byte.
-#[inline]
+#[inline(always)]
 pub(crate) fn cost_of_byte(path: u8, steps: u32) -> u64
     ensures { result ≡ path_cost (path ∷ []) steps }
 {
