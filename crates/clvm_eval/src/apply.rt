@@ -9,7 +9,7 @@ ghost use Rattle.clvm_spec.specs.OperatorTable.{apply_code};
 ghost use Rattle.clvm_tree.specs.Nodes.{tree_at, IsKnown, AreKnown, Grows};
 ghost use Rattle.clvm_tree.specs.Operators.{trees_at, outcome_by, IsAnswer, IsWithin, IsOpFault};
 ghost use Rattle.clvm_eval.specs.Runs.{IsRunFault};
-ghost use Rattle.clvm_eval.specs.Steps.{IsOpen, Advances, StepsTo, TakesAnswer, outcome_of};
+ghost use Rattle.clvm_eval.specs.Steps.{IsOpen, Advances, Yields, StepsTo, TakesAnswer, outcome_of};
 ghost use Rattle.clvm_eval.specs.declared.state.Step.TheVariants as step;
 
 use crate::quick::quick;
@@ -72,20 +72,20 @@ impl State {
         self.operands.truncate(start);
     }
 
-    // Applies an operator by the table. It stands out of line, so that the loop of a run stays small.
+    // What an operator gives by the table. It stands out of line, so that the loop of a run stays small.
     #[inline(never)]
-    fn operate_by_table<O: Operators>(
+    fn value_by_table<O: Operators>(
         &mut self,
         alloc: Global,
         trees: &mut Trees,
         ops: &O,
         frame: Frame,
-    ) -> Result<Step, RunFault>
+    ) -> Result<Node, RunFault>
         requires opened { IsOpen trees.old self.old frame }
         requires ready { frame.programs ≡ 0 }
         requires other { is_code apply_code (tree_at trees.old frame.code.0) ≡ false }
         ensures grows { Grows trees.old trees.new }
-        ensures ok { IfOk result (Advances trees.old trees.new self.old self.new (outcome_of trees.old self.old (step.Open frame))) }
+        ensures ok { IfOk result (Yields trees.old trees.new self.old self.new (outcome_of trees.old self.old (step.Open frame))) }
         ensures few_after_fault { OnErr result (length trees.new ≤ length trees.old + length trees.old + self.old.left.pairs + self.old.left.bytes) }
         ensures fault { IfErr result (IsRunFault trees.new (outcome_of trees.old self.old (step.Open frame))) }
     {
@@ -93,12 +93,38 @@ impl State {
         match ops.apply(alloc, trees, frame.code, &self.operands[start..], self.left) {
             Ok(answer) => {
                 self.take_answer(start, answer);
-                Ok(self.give(trees, answer.value))
+                Ok(answer.value)
             }
             Err(fault) => Err(fault_in(frame.form, fault)),
         }
     }
-    /// Applies an operator to its operands, at once where that can be told, else by the table.
+    // What an operator gives, at once where that can be told, else by the table.
+    #[inline(always)]
+    fn operator_value<O: Operators>(
+        &mut self,
+        alloc: Global,
+        trees: &mut Trees,
+        ops: &O,
+        frame: Frame,
+    ) -> Result<Node, RunFault>
+        requires opened { IsOpen trees.old self.old frame }
+        requires ready { frame.programs ≡ 0 }
+        requires other { is_code apply_code (tree_at trees.old frame.code.0) ≡ false }
+        ensures grows { Grows trees.old trees.new }
+        ensures ok { IfOk result (Yields trees.old trees.new self.old self.new (outcome_of trees.old self.old (step.Open frame))) }
+        ensures few_after_fault { OnErr result (length trees.new ≤ length trees.old + length trees.old + self.old.left.pairs + self.old.left.bytes) }
+        ensures fault { IfErr result (IsRunFault trees.new (outcome_of trees.old self.old (step.Open frame))) }
+    {
+        let start = self.operands.len() - frame.count as usize;
+        match quick(alloc, trees, frame.code, &self.operands[start..], self.left) {
+            Some(answer) => {
+                self.take_answer(start, answer);
+                Ok(answer.value)
+            }
+            None => self.value_by_table(alloc, trees, ops, frame),
+        }
+    }
+    /// Applies an operator to its operands.
     #[inline(always)]
     pub(crate) fn operate<O: Operators>(
         &mut self,
@@ -115,13 +141,7 @@ impl State {
         ensures few_after_fault { OnErr result (length trees.new ≤ length trees.old + length trees.old + self.old.left.pairs + self.old.left.bytes) }
         ensures fault { IfErr result (IsRunFault trees.new (outcome_of trees.old self.old (step.Open frame))) }
     {
-        let start = self.operands.len() - frame.count as usize;
-        match quick(alloc, trees, frame.code, &self.operands[start..], self.left) {
-            Some(answer) => {
-                self.take_answer(start, answer);
-                Ok(self.give(trees, answer.value))
-            }
-            None => self.operate_by_table(alloc, trees, ops, frame),
-        }
+        let value = self.operator_value(alloc, trees, ops, frame)?;
+        Ok(self.give(trees, value))
     }
 }

@@ -5,6 +5,8 @@ ghost use Rattle.clvm_spec.specs.Tree.{Atom};
 ghost use Rattle.clvm_spec.specs.Evaluation.{is_code, is_too_deep, evaluation};
 ghost use Rattle.clvm_spec.specs.Operators.{is_nil};
 ghost use Rattle.clvm_tree.specs.Nodes.{tree_at, IsKnown, HasParts, single_byte};
+ghost use Rattle.clvm_eval.specs.declared.Why.TheVariants as why;
+ghost use Rattle.clvm_eval.specs.declared.RunFault.TheVariants as fault;
 ghost use Rattle.clvm_eval.specs.declared.state.Step.TheVariants as step;
 ghost use Rattle.clvm_eval.specs.Steps.{IsState, IsOpen, outcome_with, outcome_of, Begins, IsForm, AddsOperands, StepsTo};
 
@@ -125,9 +127,18 @@ fn begin_pair(
         return Ok(Begun::Value(rest));
     }
     match trees.as_pair(head) {
-        Some(_) => Err(RunFault::Failed(Why::Operator, program)),
+        Some(_) => Err(no_operator(program)),
         None => Ok(Begun::Form(head, rest)),
     }
+}
+
+// The fault of a form whose head is a pair. It stands out of line, since it is seldom.
+#[cold]
+#[inline(never)]
+fn no_operator(program: Node) -> RunFault
+    ensures { result ≡ fault.Failed why.Operator program }
+{
+    RunFault::Failed(Why::Operator, program)
 }
 
 /// Whether the node is the empty atom.
@@ -231,21 +242,19 @@ impl State {
         requires some { 0 < frame.programs }
         ensures { StepsTo trees.now self.old self.new (outcome_of trees.now self.old (step.Open frame)) result }
     {
-        let frame = Frame {
-            programs: frame.programs - 1,
-            ..frame
-        };
-        let place = self.operands.len() - frame.count as usize + frame.programs as usize;
-        let program = self.operands[place];
-        match begin(trees, &mut self.left, program, frame.env)? {
-            Begun::Value(value) => {
-                self.operands[place] = value;
-                Ok(Step::Open(frame))
-            }
-            Begun::Form(code, operands) => {
-                self.frames.push(frame)?;
-                self.open_form(trees, code, operands, program, frame.env)
+        let mut frame = frame;
+        'operands: while frame.programs > 0 {
+            frame.programs -= 1;
+            let place = self.operands.len() - frame.count as usize + frame.programs as usize;
+            let program = self.operands[place];
+            match begin(trees, &mut self.left, program, frame.env)? {
+                Begun::Value(value) => self.operands[place] = value,
+                Begun::Form(code, operands) => {
+                    self.frames.push(frame)?;
+                    return self.open_form(trees, code, operands, program, frame.env);
+                }
             }
         }
+        Ok(Step::Open(frame))
     }
 }

@@ -6,13 +6,13 @@ use Rattle.clvm_eval.proofs.EvaluationLaws.{ev-pair, ev-quoted, charge-paid, cha
 use Rattle.clvm_eval.proofs.evaluate.begin_pair.Goals as goal
 
 pub returns-in-Some : goal.returns-in-Some
-returns-in-Some c = λ depth.
+returns-in-Some c = rw c.no_operator.ensures (λ depth.
     let trees = c.args.trees.now in
     record {
       raised_known = tt;
       form_known = c.requires.program_known;
       failed = ev-pair (tree_at trees c.args.program.0) (tree_at trees c.args.env.0) depth c.args.left.now (tree_at trees c.args.head.0) (tree_at trees c.args.rest.0) _ _ c.requires.parts.pair c.in-Some.ensures.pair;
-    }
+    })
 
 pub returns-then-not-pay : goal.returns-then-not-pay
 returns-then-not-pay c = λ depth.

@@ -6,8 +6,8 @@ use Rattle.clvm_tree.proofs.NodeLaws.{grows_length, stays}
 use Rattle.clvm_eval.specs.declared.state.Step.TheVariants as step
 use Rattle.clvm_eval.specs.Steps.{last_operands, goes_out, outcome_of}
 use Rattle.clvm_eval.proofs.StateLaws.{AreKnown-take, AreKnown-drop}
-use Rattle.clvm_eval.proofs.FormLaws.{operands_seen, answer_taken, fault_of_all, other_part, answer_room, answer_there, answer_same, advanced}
-use Rattle.clvm_eval.proofs.state.State.operate_by_table.Goals as goal
+use Rattle.clvm_eval.proofs.FormLaws.{operands_seen, answer_taken, fault_of_all, other_part, answer_room, answer_there, answer_same}
+use Rattle.clvm_eval.proofs.state.State.value_by_table.Goals as goal
 
 pub apply-requires-clause-operands_known : goal.apply-requires-clause-operands_known
 apply-requires-clause-operands_known g c =
@@ -15,17 +15,6 @@ apply-requires-clause-operands_known g c =
     let start = c.len.result - c.args.frame.count in
     let seen = c.deref.result.now in
     AreKnown-take trees (length seen - start) (drop start seen) (AreKnown-drop trees start seen (subst (AreKnown trees) (sym c.deref.ensures.value) c.requires.opened.state.operands))
-
-pub give-requires : goal.give-requires
-give-requires g c =
-    let old = c.args.trees.now in
-    let before = c.args.self.now in
-    let frame = c.args.frame in
-    let answer = c.in-Ok.answer in
-    let own = operands_seen before frame c.deref.result.now c.len.result c.len.ensures c.deref.ensures.value in
-    let gives = subst (λ ops. IsAnswer c.apply.new.trees (outcome_by (tree_at old frame.code.0) (trees_at old ops) before.left) answer) own c.in-Ok.ensures.gives in
-    let takes = answer_taken before c.take_answer.new.self frame answer c.len.result c.len.ensures c.take_answer.ensures in
-    answer_there old c.apply.new.trees before c.take_answer.new.self frame answer c.requires.opened c.in-Ok.ensures.grows c.in-Ok.ensures.few c.in-Ok.ensures.within gives takes
 
 pub returns-in-Ok-clause-ok : goal.returns-in-Ok-clause-ok
 returns-in-Ok-clause-ok g c =
@@ -38,9 +27,10 @@ returns-in-Ok-clause-ok g c =
     let own = operands_seen before frame c.deref.result.now c.len.result c.len.ensures c.deref.ensures.value in
     let gives = subst (λ ops. IsAnswer c.apply.new.trees (outcome_by (tree_at old frame.code.0) (trees_at old ops) before.left) answer) own c.in-Ok.ensures.gives in
     let takes = answer_taken before c.take_answer.new.self frame answer c.len.result c.len.ensures c.take_answer.ensures in
+    let there = answer_there old new before mid frame answer c.requires.opened c.in-Ok.ensures.grows c.in-Ok.ensures.few c.in-Ok.ensures.within gives takes in
     let room = answer_room old new before mid frame answer c.requires.opened c.in-Ok.ensures.grows c.in-Ok.ensures.few c.in-Ok.ensures.within gives takes in
     let same = answer_same old new before mid frame answer c.requires.opened c.in-Ok.ensures.grows c.in-Ok.ensures.few c.in-Ok.ensures.within gives takes c.requires.ready c.requires.other in
-    advanced old new before mid c.give.new.self answer.value.0 (outcome_of old before (step.Open frame)) c.give.result c.give.ensures same room.0 room.1
+    record { there = there; room = room.1; cheaper = room.0; same = same }
 
 pub returns-in-Err-clause-fault : goal.returns-in-Err-clause-fault
 returns-in-Err-clause-fault g c =
