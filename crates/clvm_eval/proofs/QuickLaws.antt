@@ -2,17 +2,18 @@
 use Rattle.std.proofs.Common.{◌≡◌, ℕ, ◌+◌, ◌*◌, ◌<◌, ◌≤◌, ◌^◌, ℤ, pos, negsuc, ◌+ℤ◌, ◌-ℤ◌, Bool, true, false, cond, Option, Some, List, [], ◌∷◌, length, get_or, FitsSigned, IsTrue, refl, sym, ◌∙◌, ap, ap₂, subst, arith}
 use Rattle.std.specs.Prelude.{◌↔◌, bytes_eq, int_lt}
 use Rattle.std.specs.Int.{w128}
-use Rattle.std.proofs.lemmas.Bool.{cond-true, lt-ltb}
+use Rattle.std.proofs.lemmas.Bool.{cond-true, lt-ltb, ne_eqb}
 use Rattle.std.proofs.lemmas.Int.{ints}
 use Rattle.clvm_spec.specs.declared.fuel.Fuel.{Fuel}
 use Rattle.clvm_spec.specs.declared.costs.TheConstants.{COMPARED_BYTE_COST, TERM_COST, TERM_BYTE_COST, GREATER_BYTE_COST}
 use Rattle.clvm_spec.specs.Tree.{Tree, Atom, Pair, nil}
-use Rattle.clvm_spec.specs.Numbers.{is_short, shortest_atom}
+use Rattle.clvm_spec.specs.Numbers.{number, is_natural, is_short, shortest_atom}
 use Rattle.clvm_spec.specs.Arithmetic.{fits_128, if_fits}
 use Rattle.clvm_spec.specs.Outcomes.{Applied, Gives, Enough}
 use Rattle.clvm_spec.specs.Operators.{is_nil, is_pair, number_at, free, flag, or_wide, new_number, written, choice, pair_flag, equal_flag, sum_of, difference_of, greater_flag, from_left, terms_cost}
 use Rattle.clvm_spec.specs.OperatorTable.{unless_lacking, within}
 use Rattle.clvm_spec.specs.Spending.{Suffices}
+use Rattle.clvm_spec.proofs.ShortestLaws.{shortest_is_itself}
 use Rattle.clvm_tree.specs.Nodes.{tree_at, single_byte}
 use Rattle.clvm_tree.specs.Operators.{trees_at, outcome_by}
 use Rattle.clvm_tree.specs.declared.Node.{Node}
@@ -92,6 +93,13 @@ is_held n h = cond-true _ _ _ (fits n h)
 
 pub number_written : (cost : ℕ) (n : ℤ) → FitsSigned w128 n → new_number cost n ≡ written cost (shortest_atom n)
 number_written cost n h = ap (λ held. or_wide held (λ n. written cost (shortest_atom n))) (is_held n h)
+
+-- The shortest atom of a positive number below 128 is that byte alone.
+pub small_is : (cost n : ℕ) → 0 < n → n < 128 → new_number cost (pos n) ≡ written cost (n ∷ [])
+small_is cost n low high =
+    let byte : number (n ∷ []) ≡ pos n = cond-true (is_natural n) _ _ (lt-ltb n 128 high) ∙ ap pos (omega arith) in
+    let itself = shortest_is_itself (n ∷ []) (omega arith, tt) (omega arith) (ne_eqb n 0 (λ e. omega arith)) in
+    number_written cost (pos n) (record { sfits = omega arith }) ∙ ap (written cost) (ap shortest_atom (sym byte) ∙ itself)
 
 zero_more : (n : ℤ) → pos 0 +ℤ n ≡ n
 zero_more n = omega (arith, ints)
