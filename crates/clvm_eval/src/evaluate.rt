@@ -242,19 +242,22 @@ impl State {
         requires some { 0 < frame.programs }
         ensures { StepsTo trees.now self.old self.new (outcome_of trees.now self.old (step.Open frame)) result }
     {
-        let mut frame = frame;
-        'operands: while frame.programs > 0 {
-            frame.programs -= 1;
-            let place = self.operands.len() - frame.count as usize + frame.programs as usize;
+        let mut programs = frame.programs;
+        'operands: while programs > 0 {
+            programs -= 1;
+            let place = self.operands.len() - frame.count as usize + programs as usize;
             let program = self.operands[place];
             match begin(trees, &mut self.left, program, frame.env)? {
                 Begun::Value(value) => self.operands[place] = value,
                 Begun::Form(code, operands) => {
-                    self.frames.push(frame)?;
+                    self.frames.push(Frame { programs, ..frame })?;
                     return self.open_form(trees, code, operands, program, frame.env);
                 }
             }
         }
-        Ok(Step::Open(frame))
+        Ok(Step::Open(Frame {
+            programs: 0,
+            ..frame
+        }))
     }
 }

@@ -7,19 +7,19 @@ use Rattle.clvm_eval.specs.declared.state.Step.TheVariants as step
 use Rattle.clvm_eval.specs.Runs.{IsRunFault}
 use Rattle.clvm_eval.specs.Steps.{outcome_of, outcome_with, IsBegun}
 use Rattle.clvm_eval.proofs.FormLaws.{fault_of_all}
-use Rattle.clvm_eval.proofs.StateLaws.{last_program, program_known, operand_same, operand_valued, pushed_state, pushed_same, steps_from, steps_later}
+use Rattle.clvm_eval.proofs.StateLaws.{without_last, last_program, program_known, operand_same, operand_valued, pushed_state, pushed_same, steps_from, steps_later}
 use Rattle.clvm_eval.proofs.state.State.evaluate_operand.Goals as goal
 
 pub begin-requires-clause-program_known : goal.begin-requires-clause-program_known
 begin-requires-clause-program_known c =
-    let last = last_program c.args.trees.now c.operands.self c.operands.frame c.len.result c.index-program.result.now c.operands.invariant.opened c.operands-test.true c.len.ensures c.index-program.ensures in
-    program_known c.args.trees.now c.operands.self c.operands.frame _ _ c.index-program.result.now last
+    let last = last_program c.args.trees.now c.operands.self (without_last c.args.frame c.operands.programs) c.len.result c.index-program.result.now c.operands.invariant.opened c.operands-test.true c.len.ensures c.index-program.ensures in
+    program_known c.args.trees.now c.operands.self (without_last c.args.frame c.operands.programs) _ _ c.index-program.result.now last
 
 pub returns-in_err-value : goal.returns-in_err-value
 returns-in_err-value c =
     let trees = c.args.trees.now in
     let mid = c.operands.self in
-    let frame = c.operands.frame in
+    let frame = without_last c.args.frame c.operands.programs in
     let program = c.index-program.result.now in
     let last = last_program trees mid frame c.len.result program c.operands.invariant.opened c.operands-test.true c.len.ensures c.index-program.ensures in
     let depth = suc (length mid.frames.items) in
@@ -35,7 +35,7 @@ pub operands-preserved : goal.operands-preserved
 operands-preserved c =
     let trees = c.args.trees.now in
     let mid = c.operands.self in
-    let frame = c.operands.frame in
+    let frame = without_last c.args.frame c.operands.programs in
     let program = c.index-program.result.now in
     let kept = c.operands.invariant in
     let last = last_program trees mid frame c.len.result program kept.opened c.operands-test.true c.len.ensures c.index-program.ensures in
@@ -53,7 +53,7 @@ pub open_form-requires-clause-state : goal.open_form-requires-clause-state
 open_form-requires-clause-state c =
     let trees = c.args.trees.now in
     let mid = c.operands.self in
-    let frame = c.operands.frame in
+    let frame = without_last c.args.frame c.operands.programs in
     let program = c.index-program.result.now in
     let last = last_program trees mid frame c.len.result program c.operands.invariant.opened c.operands-test.true c.len.ensures c.index-program.ensures in
     let form = subst (IsBegun trees program.0 frame.env.0 mid.left c.begin.new.left) c.in-Form.is c.in_ok-value.ensures in
@@ -64,7 +64,7 @@ returns-in-Form c =
     let trees = c.args.trees.now in
     let before = c.args.self.now in
     let mid = c.operands.self in
-    let frame = c.operands.frame in
+    let frame = without_last c.args.frame c.operands.programs in
     let program = c.index-program.result.now in
     let kept = c.operands.invariant in
     let last = last_program trees mid frame c.len.result program kept.opened c.operands-test.true c.len.ensures c.index-program.ensures in
