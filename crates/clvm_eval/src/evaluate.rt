@@ -120,15 +120,18 @@ fn begin_pair(
     ensures { Begins trees.now program.0 env.0 left.old left.new result }
 {
     let _env = env;
-    if is_code(trees, QUOTE, head) {
-        if !pay(left, QUOTE_COST as u128) {
-            return Err(RunFault::Spent(Which::Cost));
+    match trees.byte_of(head) {
+        Some(QUOTE) => {
+            if !pay(left, QUOTE_COST as u128) {
+                return Err(RunFault::Spent(Which::Cost));
+            }
+            Ok(Begun::Value(rest))
         }
-        return Ok(Begun::Value(rest));
-    }
-    match trees.as_pair(head) {
-        Some(_) => Err(no_operator(program)),
-        None => Ok(Begun::Form(head, rest)),
+        Some(_) => Ok(Begun::Form(head, rest)),
+        None => match trees.as_pair(head) {
+            Some(_) => Err(no_operator(program)),
+            None => Ok(Begun::Form(head, rest)),
+        },
     }
 }
 
