@@ -111,9 +111,13 @@ atom_form_is program env depth left head rest code is atom =
     let whole : program ≡ Pair (Atom code) rest = is ∙ ap (λ h. Pair h rest) atom in
     ap (λ p. evaluation p env depth left) whole ∙ one_step_law (Pair (Atom code) rest) env depth left
 
-pub ev-quote : (program env : Tree) (depth : ℕ) (left : Fuel) (head rest : Tree) (code : List ℕ) → program ≡ Pair head rest → head ≡ Atom code → is_byte quote_code code ≡ true → evaluation program env depth left ≡ charge QUOTE_COST left (Done rest)
+ev-quote : (program env : Tree) (depth : ℕ) (left : Fuel) (head rest : Tree) (code : List ℕ) → program ≡ Pair head rest → head ≡ Atom code → is_byte quote_code code ≡ true → evaluation program env depth left ≡ charge QUOTE_COST left (Done rest)
 ev-quote program env depth left head rest code is atom quote =
     atom_form_is program env depth left head rest code is atom ∙ cond-true (is_byte quote_code code) _ _ quote
+
+pub ev-quoted : (program env : Tree) (depth : ℕ) (left : Fuel) (head rest : Tree) → program ≡ Pair head rest → is_code quote_code head ≡ true → evaluation program env depth left ≡ charge QUOTE_COST left (Done rest)
+ev-quoted program env depth left (Atom code) rest is quote = ev-quote program env depth left (Atom code) rest code is refl quote
+ev-quoted program env depth left (Pair a b) rest is quote = absurd cc
 
 pub ev-form : (program env : Tree) (depth : ℕ) (left : Fuel) (head rest : Tree) (code : List ℕ) → program ≡ Pair head rest → head ≡ Atom code → is_byte quote_code code ≡ false → evaluation program env depth left ≡ operator_form evaluation code program env depth (elements rest) left
 ev-form program env depth left head rest code is atom other =

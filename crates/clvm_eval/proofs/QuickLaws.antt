@@ -1,24 +1,24 @@
 -- What the operators give that are answered without the table, by their operands.
-use Rattle.std.proofs.Common.{◌≡◌, ℕ, ◌+◌, ◌*◌, ◌<◌, ◌≤◌, ◌^◌, ℤ, pos, negsuc, ◌+ℤ◌, ◌-ℤ◌, Bool, true, false, cond, Option, Some, None, List, [], ◌∷◌, length, get_or, FitsSigned, IsTrue, refl, sym, ◌∙◌, ap, ap₂, subst, arith}
+use Rattle.std.proofs.Common.{◌≡◌, ℕ, ◌+◌, ◌*◌, ◌<◌, ◌≤◌, ◌^◌, ℤ, pos, negsuc, ◌+ℤ◌, ◌-ℤ◌, Bool, true, false, cond, Option, Some, List, [], ◌∷◌, length, get_or, FitsSigned, IsTrue, refl, sym, ◌∙◌, ap, ap₂, subst, arith}
 use Rattle.std.specs.Prelude.{◌↔◌, bytes_eq, int_lt}
 use Rattle.std.specs.Int.{w128}
-use Rattle.std.specs.Option.{SomeIff}
-use Rattle.std.proofs.lemmas.Bool.{cond-true, lt-ltb}
+use Rattle.std.proofs.lemmas.Bool.{cond-true, lt-ltb, ne_eqb}
 use Rattle.std.proofs.lemmas.Int.{ints}
 use Rattle.clvm_spec.specs.declared.fuel.Fuel.{Fuel}
-use Rattle.clvm_spec.specs.declared.costs.TheConstants.{RESULT_BYTE_COST, COMPARED_BYTE_COST, TERM_COST, TERM_BYTE_COST, GREATER_BYTE_COST, ATOM_OVERHEAD}
+use Rattle.clvm_spec.specs.declared.costs.TheConstants.{COMPARED_BYTE_COST, TERM_COST, TERM_BYTE_COST, GREATER_BYTE_COST}
 use Rattle.clvm_spec.specs.Tree.{Tree, Atom, Pair, nil}
-use Rattle.clvm_spec.specs.Numbers.{number, is_short, shortest_atom}
+use Rattle.clvm_spec.specs.Numbers.{number, is_natural, is_short, shortest_atom}
 use Rattle.clvm_spec.specs.Arithmetic.{fits_128, if_fits}
-use Rattle.clvm_spec.specs.Outcomes.{Applied, Gives, WithinFuel, Enough}
+use Rattle.clvm_spec.specs.Outcomes.{Applied, Gives, Enough}
 use Rattle.clvm_spec.specs.Operators.{is_nil, is_pair, number_at, free, flag, or_wide, new_number, written, choice, pair_flag, equal_flag, sum_of, difference_of, greater_flag, from_left, terms_cost}
 use Rattle.clvm_spec.specs.OperatorTable.{unless_lacking, within}
-use Rattle.clvm_spec.specs.Spending.{Spending, Suffices}
-use Rattle.clvm_tree.specs.Nodes.{tree_at, IsKnown, AreKnown, Grows, Adds, single_byte}
-use Rattle.clvm_tree.specs.Operators.{trees_at, outcome_by, IsAnswer}
+use Rattle.clvm_spec.specs.Spending.{Suffices}
+use Rattle.clvm_spec.proofs.ShortestLaws.{shortest_is_itself}
+use Rattle.clvm_tree.specs.Nodes.{tree_at, single_byte}
+use Rattle.clvm_tree.specs.Operators.{trees_at, outcome_by}
 use Rattle.clvm_tree.specs.declared.Node.{Node}
 use Rattle.clvm_tree.specs.declared.operators.Answer.{Answer}
-use Rattle.clvm_eval.specs.Quick.{IsQuick, IsQuickOrNone, Quickly, IsNumber}
+use Rattle.clvm_eval.specs.Quick.{IsQuickOrNone, Quickly, IsNumber}
 
 -- ---- the operands
 
@@ -48,7 +48,7 @@ quickly_same old new left a b result e h = subst (λ x. Quickly old new left x r
 pub enough : (left : Fuel) (value : Tree) (cost pairs bytes : ℕ) → Suffices left (record { cost = cost; pairs = pairs; bytes = bytes }) → within left (Gives value cost pairs bytes) ≡ Enough (Gives value cost pairs bytes)
 enough left value cost pairs bytes h = ap (λ l. unless_lacking l (Gives value cost pairs bytes)) h
 
-byte_is : (tree : Tree) (byte : ℕ) → single_byte tree ≡ Some byte → tree ≡ Atom (byte ∷ [])
+pub byte_is : (tree : Tree) (byte : ℕ) → single_byte tree ≡ Some byte → tree ≡ Atom (byte ∷ [])
 byte_is (Atom []) byte e = absurd cc
 byte_is (Atom (b ∷ [])) byte e = let same : b ≡ byte = cc in ap (λ x. Atom (x ∷ [])) same
 byte_is (Atom (b ∷ c ∷ more)) byte e = absurd cc
@@ -93,6 +93,13 @@ is_held n h = cond-true _ _ _ (fits n h)
 
 pub number_written : (cost : ℕ) (n : ℤ) → FitsSigned w128 n → new_number cost n ≡ written cost (shortest_atom n)
 number_written cost n h = ap (λ held. or_wide held (λ n. written cost (shortest_atom n))) (is_held n h)
+
+-- The shortest atom of a positive number below 128 is that byte alone.
+pub small_is : (cost n : ℕ) → 0 < n → n < 128 → new_number cost (pos n) ≡ written cost (n ∷ [])
+small_is cost n low high =
+    let byte : number (n ∷ []) ≡ pos n = cond-true (is_natural n) _ _ (lt-ltb n 128 high) ∙ ap pos (omega arith) in
+    let itself = shortest_is_itself (n ∷ []) (omega arith, tt) (omega arith) (ne_eqb n 0 (λ e. omega arith)) in
+    number_written cost (pos n) (record { sfits = omega arith }) ∙ ap (written cost) (ap shortest_atom (sym byte) ∙ itself)
 
 zero_more : (n : ℤ) → pos 0 +ℤ n ≡ n
 zero_more n = omega (arith, ints)

@@ -375,3 +375,12 @@ advances_from trees before mid after whole part next left is advances =
 pub steps_from : (trees : List Tree) (before mid after : State) (whole part : Outcome) (result : Result Step RunFault) → mid.left ≡ before.left → part ≡ whole → StepsTo trees mid after part result → StepsTo trees before after whole result
 steps_from trees before mid after whole part (Ok next) left is h = advances_from trees before mid after whole part next left is h
 steps_from trees before mid after whole part (Err f) left is h = subst (λ o. IsRunFault trees o f) is h
+
+-- Of a run that has evaluated some operands of its open form, each at some cost.
+pub steps_later : (trees : List Tree) (before mid after : State) (first frame : Frame) (whole part : Outcome) (result : Result Step RunFault) → frame.programs ≤ first.programs →
+    mid.left.pairs + mid.left.bytes ≤ before.left.pairs + before.left.bytes → mid.left.cost + first.programs ≤ before.left.cost + frame.programs → part ≡ whole → StepsTo trees mid after part result → StepsTo trees before after whole result
+steps_later trees before mid after first frame whole part (Ok next) fewer room cheaper is h =
+    let r = h.room in
+    let c = h.cheaper in
+    record { sound = h.sound; room = omega arith; cheaper = omega arith; same = h.same ∙ is }
+steps_later trees before mid after first frame whole part (Err f) fewer room cheaper is h = subst (λ o. IsRunFault trees o f) is h

@@ -116,6 +116,13 @@ pub record Advances (old new : List Tree) (before after : State) (whole : Outcom
   pub cheaper : after.left.cost < before.left.cost
   pub same : outcome_of new after next ≡ whole
 
+-- An operator has given a value for the innermost form, at some cost, and all comes to what it is given.
+pub record Yields (old new : List Tree) (before after : State) (whole : Outcome) (value : Node) : Type 0 where
+  pub there : HasValue new after value.0
+  pub room : length new + after.left.pairs + after.left.bytes ≤ length old + before.left.pairs + before.left.bytes
+  pub cheaper : after.left.cost < before.left.cost
+  pub same : goes_out new after (tree_at new value.0) after.left ≡ whole
+
 -- Where the trees stay as they are: the run goes on, or the fault is that of all.
 abbrev pub StepsTo : List Tree → State → State → Outcome → Result Step RunFault → Type 0
 StepsTo trees before after whole result = MatchResult result (Advances trees trees before after whole) (IsRunFault trees whole)

@@ -9,28 +9,15 @@ ghost use Rattle.clvm_spec.specs.OperatorTable.{apply_code};
 ghost use Rattle.clvm_tree.specs.Nodes.{tree_at, IsKnown, AreKnown, Grows};
 ghost use Rattle.clvm_tree.specs.Operators.{trees_at, outcome_by, IsAnswer, IsWithin, IsOpFault};
 ghost use Rattle.clvm_eval.specs.Runs.{IsRunFault};
-ghost use Rattle.clvm_eval.specs.Steps.{IsOpen, Advances, StepsTo, TakesAnswer, outcome_of};
+ghost use Rattle.clvm_eval.specs.Steps.{IsOpen, Advances, Yields, StepsTo, TakesAnswer, outcome_of};
 ghost use Rattle.clvm_eval.specs.declared.state.Step.TheVariants as step;
 
-use crate::evaluate::is_byte;
 use crate::quick::quick;
 use crate::state::{Frame, State, Step, pay};
 use crate::{RunFault, Why};
 use clvm_spec::costs::APPLY_COST;
-use clvm_spec::op_codes::APPLY;
-use clvm_tree::{Answer, Fuel, Node, OpFault, Operators, Sight, Trees, Which};
+use clvm_tree::{Answer, Fuel, Node, OpFault, Operators, Trees, Which};
 use std::alloc::Global;
-
-/// Whether the code is that of `a`, which goes on with its operands.
-pub(crate) fn is_apply(trees: &Trees, code: Node) -> bool
-    requires { IsKnown trees.now code.0 }
-    ensures { result ≡ is_code apply_code (tree_at trees.now code.0) }
-{
-    match trees.look(code) {
-        Sight::Bytes(bytes) => is_byte(APPLY, bytes),
-        Sight::Parts(_, _) => false,
-    }
-}
 
 // The fault of an operator as that of its form.
 fn fault_in(form: Node, fault: OpFault) -> RunFault
@@ -50,36 +37,9 @@ fn fault_in(form: Node, fault: OpFault) -> RunFault
     }
 }
 
-// What the operator of this code gives, at once where that can be told, else by the table.
-fn answer<O: Operators>(
-    alloc: Global,
-    trees: &mut Trees,
-    ops: &O,
-    code: Node,
-    operands: &[Node],
-    left: Fuel,
-) -> Result<Answer, OpFault>
-    requires code_known { IsKnown trees.old code.0 }
-    requires operands_known { AreKnown trees.old operands.now }
-    requires fits { length trees.old + length operands.now + left.pairs + left.bytes < 2 ^ 31 }
-    ensures grows { Grows trees.old trees.new }
-    ensures few { IfOk result (λ answer. length trees.new ≤ length trees.old + answer.pairs + answer.bytes) }
-    ensures within { IfOk result (IsWithin left) }
-    ensures gives { IfOk result (IsAnswer trees.new
-        (outcome_by (tree_at trees.old code.0) (trees_at trees.old operands.now) left)) }
-    ensures few_after_fault { OnErr result
-        (length trees.new ≤ length trees.old + length operands.now + left.pairs + left.bytes) }
-    ensures fault { IfErr result (IsOpFault trees.new
-        (outcome_by (tree_at trees.old code.0) (trees_at trees.old operands.now) left)) }
-{
-    match quick(alloc, trees, code, operands, left) {
-        Some(answer) => Ok(answer),
-        None => ops.apply(alloc, trees, code, operands, left),
-    }
-}
-
 impl State {
     /// Goes on with the first operand as the program and the second as the environment, at the form's depth.
+    #[inline(always)]
     pub(crate) fn run_operand(&mut self, trees: &Trees, frame: Frame) -> Result<Step, RunFault>
         requires opened { IsOpen trees.now self.old frame }
         requires ready { frame.programs ≡ 0 }
@@ -101,6 +61,7 @@ impl State {
 
     // Takes the operands away, and what the answer uses.
     #[tactic(auto, using(clvm_spec::proofs::SpendingLaws::covers))]
+    #[inline(always)]
     fn take_answer(&mut self, start: usize, answer: Answer)
         requires within { IsWithin self.old.left answer }
         ensures { TakesAnswer start answer self.old self.new }
@@ -111,7 +72,60 @@ impl State {
         self.operands.truncate(start);
     }
 
+    // What an operator gives by the table. It stands out of line, so that the loop of a run stays small.
+    #[inline(never)]
+    fn value_by_table<O: Operators>(
+        &mut self,
+        alloc: Global,
+        trees: &mut Trees,
+        ops: &O,
+        frame: Frame,
+    ) -> Result<Node, RunFault>
+        requires opened { IsOpen trees.old self.old frame }
+        requires ready { frame.programs ≡ 0 }
+        requires other { is_code apply_code (tree_at trees.old frame.code.0) ≡ false }
+        ensures grows { Grows trees.old trees.new }
+        ensures ok { IfOk result (Yields trees.old trees.new self.old self.new (outcome_of trees.old self.old (step.Open frame))) }
+        ensures few_after_fault { OnErr result (length trees.new ≤ length trees.old + length trees.old + self.old.left.pairs + self.old.left.bytes) }
+        ensures fault { IfErr result (IsRunFault trees.new (outcome_of trees.old self.old (step.Open frame))) }
+    {
+        let start = self.operands.len() - frame.count as usize;
+        match ops.apply(alloc, trees, frame.code, &self.operands[start..], self.left) {
+            Ok(answer) => {
+                self.take_answer(start, answer);
+                Ok(answer.value)
+            }
+            Err(fault) => Err(fault_in(frame.form, fault)),
+        }
+    }
+    // What an operator gives, at once where that can be told, else by the table.
+    #[inline(always)]
+    fn operator_value<O: Operators>(
+        &mut self,
+        alloc: Global,
+        trees: &mut Trees,
+        ops: &O,
+        frame: Frame,
+    ) -> Result<Node, RunFault>
+        requires opened { IsOpen trees.old self.old frame }
+        requires ready { frame.programs ≡ 0 }
+        requires other { is_code apply_code (tree_at trees.old frame.code.0) ≡ false }
+        ensures grows { Grows trees.old trees.new }
+        ensures ok { IfOk result (Yields trees.old trees.new self.old self.new (outcome_of trees.old self.old (step.Open frame))) }
+        ensures few_after_fault { OnErr result (length trees.new ≤ length trees.old + length trees.old + self.old.left.pairs + self.old.left.bytes) }
+        ensures fault { IfErr result (IsRunFault trees.new (outcome_of trees.old self.old (step.Open frame))) }
+    {
+        let start = self.operands.len() - frame.count as usize;
+        match quick(alloc, trees, frame.code, &self.operands[start..], self.left) {
+            Some(answer) => {
+                self.take_answer(start, answer);
+                Ok(answer.value)
+            }
+            None => self.value_by_table(alloc, trees, ops, frame),
+        }
+    }
     /// Applies an operator to its operands.
+    #[inline(always)]
     pub(crate) fn operate<O: Operators>(
         &mut self,
         alloc: Global,
@@ -127,20 +141,7 @@ impl State {
         ensures few_after_fault { OnErr result (length trees.new ≤ length trees.old + length trees.old + self.old.left.pairs + self.old.left.bytes) }
         ensures fault { IfErr result (IsRunFault trees.new (outcome_of trees.old self.old (step.Open frame))) }
     {
-        let start = self.operands.len() - frame.count as usize;
-        match answer(
-            alloc,
-            trees,
-            ops,
-            frame.code,
-            &self.operands[start..],
-            self.left,
-        ) {
-            Ok(answer) => {
-                self.take_answer(start, answer);
-                Ok(self.give(trees, answer.value))
-            }
-            Err(fault) => Err(fault_in(frame.form, fault)),
-        }
+        let value = self.operator_value(alloc, trees, ops, frame)?;
+        Ok(self.give(trees, value))
     }
 }

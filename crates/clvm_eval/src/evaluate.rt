@@ -1,14 +1,16 @@
 //! A step of evaluation: a path, a quoted value, or the begin of an operator form.
 
-ghost use Rattle.std.specs.Prelude.{◌≡◌, ℕ, ◌+◌, ◌<◌, ◌≤◌, None, IfOk, OnOk};
+ghost use Rattle.std.specs.Prelude.{◌≡◌, ℕ, ◌+◌, ◌<◌, ◌≤◌, Some, None, IfOk, OnOk};
 ghost use Rattle.clvm_spec.specs.Tree.{Atom};
-ghost use Rattle.clvm_spec.specs.Evaluation.{is_byte, is_too_deep, evaluation};
+ghost use Rattle.clvm_spec.specs.Evaluation.{is_code, is_too_deep, evaluation};
 ghost use Rattle.clvm_spec.specs.Operators.{is_nil};
-ghost use Rattle.clvm_tree.specs.Nodes.{tree_at, IsKnown, HasParts};
+ghost use Rattle.clvm_tree.specs.Nodes.{tree_at, IsKnown, HasParts, single_byte};
+ghost use Rattle.clvm_eval.specs.declared.Why.TheVariants as why;
+ghost use Rattle.clvm_eval.specs.declared.RunFault.TheVariants as fault;
 ghost use Rattle.clvm_eval.specs.declared.state.Step.TheVariants as step;
 ghost use Rattle.clvm_eval.specs.Steps.{IsState, IsOpen, outcome_with, outcome_of, Begins, IsForm, AddsOperands, StepsTo};
 
-use crate::path::{cost_of_path, follow};
+use crate::path::{cost_of_byte, cost_of_path, follow, follow_byte};
 use crate::state::{Frame, State, Step, pay};
 use crate::{RunFault, Why};
 use clvm_spec::costs::{FORM_COST, QUOTE_COST};
@@ -24,17 +26,20 @@ pub(crate) enum Begun {
     Form(Node, Node),
 }
 
-/// Whether an atom is this one byte.
-pub(crate) fn is_byte(code: u8, bytes: &[u8]) -> bool
-    ensures { result ≡ is_byte code bytes.now }
+/// Whether the node is the atom of this one byte.
+#[inline(always)]
+pub(crate) fn is_code(trees: &Trees, code: u8, node: Node) -> bool
+    requires { IsKnown trees.now node.0 }
+    ensures { result ≡ is_code code (tree_at trees.now node.0) }
 {
-    match bytes {
-        [byte] => *byte == code,
-        _ => false,
+    match trees.byte_of(node) {
+        Some(byte) => byte == code,
+        None => false,
     }
 }
 
 /// Looks at a program, and evaluates it where that takes no operator.
+#[inline(always)]
 pub(crate) fn begin(
     trees: &Trees,
     left: &mut Fuel,
@@ -45,6 +50,9 @@ pub(crate) fn begin(
     requires env_known { IsKnown trees.now env.0 }
     ensures { Begins trees.now program.0 env.0 left.old left.new result }
 {
+    if let Some(path) = trees.byte_of(program) {
+        return evaluate_byte(trees, left, path, program, env);
+    }
     match trees.look(program) {
         Sight::Bytes(path) => evaluate_path(trees, left, path, program, env),
         Sight::Parts(head, rest) => begin_pair(trees, left, head, rest, program, env),
@@ -52,6 +60,30 @@ pub(crate) fn begin(
 }
 
 // A step's failure comes before its lack of cost.
+#[inline(always)]
+fn evaluate_byte(
+    trees: &Trees,
+    left: &mut Fuel,
+    path: u8,
+    program: Node,
+    env: Node,
+) -> Result<Begun, RunFault>
+    requires program_known { IsKnown trees.now program.0 }
+    requires env_known { IsKnown trees.now env.0 }
+    requires path { single_byte (tree_at trees.now program.0) ≡ Some path }
+    ensures { Begins trees.now program.0 env.0 left.old left.new result }
+{
+    let Some(at) = follow_byte(trees, path, env) else {
+        return Err(RunFault::Failed(Why::Path, program));
+    };
+    if !pay(left, cost_of_byte(path, at.steps) as u128) {
+        return Err(RunFault::Spent(Which::Cost));
+    }
+    Ok(Begun::Value(at.node))
+}
+
+// The same of a path of no byte or of several.
+#[inline(never)]
 fn evaluate_path(
     trees: &Trees,
     left: &mut Fuel,
@@ -73,6 +105,7 @@ fn evaluate_path(
     Ok(Begun::Value(at.node))
 }
 
+#[inline(always)]
 fn begin_pair(
     trees: &Trees,
     left: &mut Fuel,
@@ -87,16 +120,28 @@ fn begin_pair(
     ensures { Begins trees.now program.0 env.0 left.old left.new result }
 {
     let _env = env;
-    let Sight::Bytes(code) = trees.look(head) else {
-        return Err(RunFault::Failed(Why::Operator, program));
-    };
-    if !is_byte(QUOTE, code) {
-        return Ok(Begun::Form(head, rest));
+    match trees.byte_of(head) {
+        Some(QUOTE) => {
+            if !pay(left, QUOTE_COST as u128) {
+                return Err(RunFault::Spent(Which::Cost));
+            }
+            Ok(Begun::Value(rest))
+        }
+        Some(_) => Ok(Begun::Form(head, rest)),
+        None => match trees.as_pair(head) {
+            Some(_) => Err(no_operator(program)),
+            None => Ok(Begun::Form(head, rest)),
+        },
     }
-    if !pay(left, QUOTE_COST as u128) {
-        return Err(RunFault::Spent(Which::Cost));
-    }
-    Ok(Begun::Value(rest))
+}
+
+// The fault of a form whose head is a pair. It stands out of line, since it is seldom.
+#[cold]
+#[inline(never)]
+fn no_operator(program: Node) -> RunFault
+    ensures { result ≡ fault.Failed why.Operator program }
+{
+    RunFault::Failed(Why::Operator, program)
 }
 
 /// Whether the node is the empty atom.
@@ -108,6 +153,7 @@ pub(crate) fn is_nil(trees: &Trees, node: Node) -> bool
 }
 
 // Adds the elements of a list, and tells how many there are, None where nil doesn't end it.
+#[inline(always)]
 fn add_operands(
     operands: &mut Vec<Node>,
     trees: &Trees,
@@ -139,6 +185,7 @@ fn is_too_deep(count: u32, depth: usize, limit: u32) -> bool
 
 impl State {
     /// Opens a form: its operands are programs that are evaluated before its operator is applied.
+    #[inline(always)]
     fn open_form(
         &mut self,
         trees: &Trees,
@@ -173,6 +220,7 @@ impl State {
     }
 
     /// Evaluates a program whose value the innermost form awaits, or opens it where it's a form.
+    #[inline(always)]
     pub(crate) fn evaluate(
         &mut self,
         trees: &Trees,
@@ -191,26 +239,28 @@ impl State {
     }
 
     /// Evaluates the last operand of the open form that is a program yet, or opens it where it's a form.
+    #[inline(always)]
     pub(crate) fn evaluate_operand(&mut self, trees: &Trees, frame: Frame) -> Result<Step, RunFault>
         requires opened { IsOpen trees.now self.old frame }
         requires some { 0 < frame.programs }
         ensures { StepsTo trees.now self.old self.new (outcome_of trees.now self.old (step.Open frame)) result }
     {
-        let frame = Frame {
-            programs: frame.programs - 1,
-            ..frame
-        };
-        let place = self.operands.len() - frame.count as usize + frame.programs as usize;
-        let program = self.operands[place];
-        match begin(trees, &mut self.left, program, frame.env)? {
-            Begun::Value(value) => {
-                self.operands[place] = value;
-                Ok(Step::Open(frame))
-            }
-            Begun::Form(code, operands) => {
-                self.frames.push(frame)?;
-                self.open_form(trees, code, operands, program, frame.env)
+        let mut programs = frame.programs;
+        'operands: while programs > 0 {
+            programs -= 1;
+            let place = self.operands.len() - frame.count as usize + programs as usize;
+            let program = self.operands[place];
+            match begin(trees, &mut self.left, program, frame.env)? {
+                Begun::Value(value) => self.operands[place] = value,
+                Begun::Form(code, operands) => {
+                    self.frames.push(Frame { programs, ..frame })?;
+                    return self.open_form(trees, code, operands, program, frame.env);
+                }
             }
         }
+        Ok(Step::Open(Frame {
+            programs: 0,
+            ..frame
+        }))
     }
 }

@@ -7,14 +7,16 @@ ghost use Rattle.clvm_eval.specs.Runs.{IsRunDone, IsRunFault};
 ghost use Rattle.clvm_eval.specs.Steps.{IsOpen, Advances, outcome_of};
 ghost use Rattle.clvm_eval.specs.declared.state.Step.TheVariants as step;
 
-use crate::apply::is_apply;
+use crate::evaluate::is_code;
 use crate::state::{Frame, State, Step};
 use crate::{Done, RunFault};
+use clvm_spec::op_codes::APPLY;
 use clvm_tree::{Fuel, Node, Operators, Trees};
 use std::alloc::Global;
 
 impl State {
     // Goes on with the open form.
+    #[inline(always)]
     fn go_on<O: Operators>(
         &mut self,
         alloc: Global,
@@ -30,7 +32,7 @@ impl State {
     {
         if frame.programs > 0 {
             self.evaluate_operand(trees, frame)
-        } else if is_apply(trees, frame.code) {
+        } else if is_code(trees, APPLY, frame.code) {
             self.run_operand(trees, frame)
         } else {
             self.operate(alloc, trees, ops, frame)

@@ -1,6 +1,6 @@
 //! An atom as a path into an environment.
 
-ghost use Rattle.std.specs.Prelude.{◌≡◌, ℕ, ◌+◌, ◌<◌, ◌≤◌, ◌^◌, MatchOption};
+ghost use Rattle.std.specs.Prelude.{◌≡◌, ℕ, ◌+◌, ◌<◌, ◌≤◌, ◌^◌, [], ◌∷◌, MatchOption};
 ghost use Rattle.clvm_spec.specs.Path.{Astray, path_value, path_cost};
 ghost use Rattle.clvm_tree.specs.Nodes.{tree_at, IsKnown};
 ghost use Rattle.clvm_eval.specs.Paths.{IsStep, IsNoStep, IsFollowed, IsAstray, IsReached};
@@ -19,6 +19,7 @@ pub struct Place {
 }
 
 // One step on, by a bit: 0 to the first, 1 to the rest. None at an atom.
+#[inline(always)]
 fn step(trees: &Trees, from: Place, bit: u32) -> Option<Place>
     requires known { IsKnown trees.now from.node.0 }
     requires few { from.node.0 + from.steps < 2 ^ 32 }
@@ -34,6 +35,7 @@ fn step(trees: &Trees, from: Place, bit: u32) -> Option<Place>
 }
 
 // Follows the bits below the highest set one, from the lowest up.
+#[inline(always)]
 fn descend(trees: &Trees, from: Place, bits: u32) -> Option<Place>
     requires known { IsKnown trees.now from.node.0 }
     requires few { from.node.0 + from.steps < 2 ^ 32 }
@@ -73,6 +75,25 @@ pub fn follow(trees: &Trees, path: &[u8], env: Node) -> Option<Place>
     descend(trees, at, path[zeros] as u32)
 }
 
+/// Where a path of one byte leads.
+#[inline(always)]
+pub(crate) fn follow_byte(trees: &Trees, path: u8, env: Node) -> Option<Place>
+    requires { IsKnown trees.now env.0 }
+    ensures { MatchOption result (path_value (path ∷ []) (tree_at trees.now env.0) ≡ Astray) (IsReached trees.now (path ∷ []) (tree_at trees.now env.0)) }
+{
+    if path == 0 {
+        return Some(Place {
+            node: trees.nil(),
+            steps: 0,
+        });
+    }
+    let from = Place {
+        node: env,
+        steps: 0,
+    };
+    descend(trees, from, path as u32)
+}
+
 /// What it costs to follow a path by so many steps: 44, 4 for each zero byte that it begins with, and 4 for each step.
 pub fn cost_of_path(path: &[u8], steps: u32) -> u128
     ensures { result ≡ path_cost path.now steps }
@@ -81,4 +102,13 @@ pub fn cost_of_path(path: &[u8], steps: u32) -> u128
     PATH_COST as u128
         + PATH_ZERO_COST as u128 * zeros as u128
         + PATH_STEP_COST as u128 * steps as u128
+}
+
+/// What it costs to follow a path of one byte.
+#[inline(always)]
+pub(crate) fn cost_of_byte(path: u8, steps: u32) -> u64
+    ensures { result ≡ path_cost (path ∷ []) steps }
+{
+    let zeros = if path == 0 { 1 } else { 0 };
+    PATH_COST as u64 + PATH_ZERO_COST as u64 * zeros + PATH_STEP_COST as u64 * steps as u64
 }

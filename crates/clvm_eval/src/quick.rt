@@ -1,11 +1,12 @@
 //! The operators that programs use most, on operands as they mostly are. What isn't answered here is left to the table of
 //! operators, which finds each fault.
 
-ghost use Rattle.std.specs.Prelude.{◌≡◌, ℕ, ◌+◌, ◌*◌, ◌<◌, ◌≤◌, ◌^◌, [], ◌∷◌, length, IfSome};
+ghost use Rattle.std.specs.Prelude.{◌≡◌, ℕ, pos, ◌+◌, ◌*◌, ◌<◌, ◌≤◌, ◌^◌, [], ◌∷◌, length, IfSome};
 ghost use Rattle.std.specs.Bool.{OnTrue};
 ghost use Rattle.clvm_spec.specs.declared.costs.TheConstants.{CHOICE_COST, NEW_PAIR_COST, FIRST_COST, REST_COST, PAIR_FLAG_COST, EQUAL_COST, SUM_COST, DIFFERENCE_COST, GREATER_COST, TERM_COST, TERM_BYTE_COST};
 ghost use Rattle.clvm_spec.specs.Operators.{is_nil, free, flag, new_number, choice, new_pair, first_of, rest_of, pair_flag, equal_flag, sum_of, difference_of, greater_flag};
 ghost use Rattle.clvm_spec.specs.OperatorTable.{applied};
+ghost use Rattle.clvm_spec.specs.Numbers.{number};
 ghost use Rattle.clvm_spec.specs.Spending.{Suffices};
 ghost use Rattle.clvm_tree.specs.Nodes.{tree_at, IsKnown, AreKnown};
 ghost use Rattle.clvm_tree.specs.Operators.{trees_at, outcome_by};
@@ -173,10 +174,29 @@ struct Number {
     size: u64,
 }
 
+// The number that an atom of this one byte is.
+#[inline(always)]
+fn byte_number(byte: u8) -> i128
+    ensures { result ≡ number (byte ∷ []) }
+{
+    if byte < 0x80 {
+        byte as i128
+    } else {
+        byte as i128 - 0x100
+    }
+}
+
+#[inline(always)]
 fn number_of(trees: &Trees, operand: Node) -> Option<Number>
     requires { IsKnown trees.now operand.0 }
     ensures { IfSome result (λ n. IsNumber (tree_at trees.now operand.0) n.value n.size) }
 {
+    if let Some(byte) = trees.byte_of(operand) {
+        return Some(Number {
+            value: byte_number(byte),
+            size: 1,
+        });
+    }
     let bytes = trees.bytes_of(operand)?;
     if bytes.len() > 16 {
         return None;
@@ -188,7 +208,49 @@ fn number_of(trees: &Trees, operand: Node) -> Option<Number>
 }
 
 // The shortest atom of a number, each of whose bytes costs more.
+#[inline(always)]
 fn new_number(
+    alloc: Global,
+    trees: &mut Trees,
+    number: i128,
+    cost: u64,
+    left: Fuel,
+) -> Option<Answer>
+    requires low { cost < 2 ^ 32 }
+    requires fits { length trees.old + left.pairs + left.bytes < 2 ^ 31 }
+    ensures { Quickly trees.old trees.new left (new_number cost number) result }
+{
+    if 0 < number && number < 0x80 {
+        small_number(trees, number as u8, cost, left)
+    } else {
+        large_number(alloc, trees, number, cost, left)
+    }
+}
+
+// A number whose atom is one byte, which is there already.
+#[inline(always)]
+fn small_number(trees: &Trees, number: u8, cost: u64, left: Fuel) -> Option<Answer>
+    requires low { cost < 2 ^ 32 }
+    requires some { 0 < number }
+    requires small { number < 0x80 }
+    ensures { Quickly trees.now trees.now left (new_number cost (pos number)) result }
+{
+    let cost = cost + costs::RESULT_BYTE_COST;
+    let bytes = 1 + costs::ATOM_OVERHEAD;
+    if !suffices(left, cost, 0, bytes) {
+        return None;
+    }
+    Some(Answer {
+        value: trees.byte(number),
+        cost,
+        pairs: 0,
+        bytes,
+    })
+}
+
+// Any number.
+#[inline(never)]
+fn large_number(
     alloc: Global,
     trees: &mut Trees,
     number: i128,

@@ -38,6 +38,7 @@ pub(crate) enum Step {
 }
 
 /// Takes the cost away, unless what is left doesn't suffice.
+#[inline(always)]
 pub(crate) fn pay(left: &mut Fuel, cost: u128) -> bool
     ensures { MatchBool result (Pays cost left.old left.new) (exceeds cost left.old.cost ≡ true) }
 {
@@ -50,6 +51,7 @@ pub(crate) fn pay(left: &mut Fuel, cost: u128) -> bool
 
 impl State {
     /// Gives a value to the innermost form, which is open then, or ends the run with it.
+    #[inline(always)]
     pub(crate) fn give(&mut self, _trees: &Trees, value: Node) -> Step
         requires { HasValue _trees.now self.old value.0 }
         ensures { Gives _trees.now self.old self.new value.0 result }

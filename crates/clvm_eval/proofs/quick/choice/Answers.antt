@@ -1,4 +1,3 @@
-use Rattle.std.proofs.Common.{◌∙◌, sym}
 use Rattle.clvm_spec.specs.declared.costs.TheConstants.{CHOICE_COST}
 use Rattle.clvm_eval.proofs.QuickLaws.{three_operands, quickly_same, choice_is}
 use Rattle.clvm_eval.proofs.quick.choice.Goals as goal

@@ -1,4 +1,4 @@
-use Rattle.std.proofs.Common.{◌≡◌, ◌+◌, ◌-◌, length, refl, arith}
+use Rattle.std.proofs.Common.{◌-◌, refl}
 use Rattle.clvm_eval.specs.declared.state.State.{State}
 use Rattle.clvm_eval.specs.declared.state.Step.TheVariants as step
 use Rattle.clvm_eval.specs.Steps.{outcome_of, outcome_with}
