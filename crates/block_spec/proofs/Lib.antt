@@ -1,1 +1,2 @@
 pub mod AddedLaws
+pub mod WrittenLaws

@@ -19,19 +19,19 @@ either true y e = cc
 
 -- ---- distinct ids, one list behind another
 
-all-append : (P : Hash32 → Type 0) (xs ys : List Hash32) → AllByRecursion P xs → AllByRecursion P ys → AllByRecursion P (xs ++ ys)
+pub all-append : (P : Hash32 → Type 0) (xs ys : List Hash32) → AllByRecursion P xs → AllByRecursion P ys → AllByRecursion P (xs ++ ys)
 all-append P [] ys a b = b
 all-append P (x ∷ xs) ys a b = (a.0, all-append P xs ys a.1 b)
 
-apart-first : (x : Hash32) (xs ys : List Hash32) → AllByRecursion (λ y. is_among (x ∷ xs) y ≡ false) ys → AllByRecursion (λ y. is_same_id x y ≡ false) ys
+pub apart-first : (x : Hash32) (xs ys : List Hash32) → AllByRecursion (λ y. is_among (x ∷ xs) y ≡ false) ys → AllByRecursion (λ y. is_same_id x y ≡ false) ys
 apart-first x xs [] apart = tt
 apart-first x xs (y ∷ ys) apart = ((either (is_same_id x y) (is_among xs y) apart.0).0, apart-first x xs ys apart.1)
 
-apart-rest : (x : Hash32) (xs ys : List Hash32) → AllByRecursion (λ y. is_among (x ∷ xs) y ≡ false) ys → AllByRecursion (λ y. is_among xs y ≡ false) ys
+pub apart-rest : (x : Hash32) (xs ys : List Hash32) → AllByRecursion (λ y. is_among (x ∷ xs) y ≡ false) ys → AllByRecursion (λ y. is_among xs y ≡ false) ys
 apart-rest x xs [] apart = tt
 apart-rest x xs (y ∷ ys) apart = ((either (is_same_id x y) (is_among xs y) apart.0).1, apart-rest x xs ys apart.1)
 
-distinct-append : (xs ys : List Hash32) → IsDistinct is_same_id xs → IsDistinct is_same_id ys → AllByRecursion (λ y. is_among xs y ≡ false) ys → IsDistinct is_same_id (xs ++ ys)
+pub distinct-append : (xs ys : List Hash32) → IsDistinct is_same_id xs → IsDistinct is_same_id ys → AllByRecursion (λ y. is_among xs y ≡ false) ys → IsDistinct is_same_id (xs ++ ys)
 unfolding IsDistinct
 distinct-append [] ys a b apart = b
 distinct-append (x ∷ xs) ys a b apart =

@@ -1,2 +1,4 @@
 pub mod DistinctLaws
 pub mod LookLaws
+pub mod MoveLaws
+pub mod PairLaws

@@ -1,6 +1,8 @@
 pub mod CheckLaws
+pub mod AgreementLaws
 pub mod FactLaws
 pub mod FineLaws
+pub mod FineCoins
 mod FineRows
 mod PairRows
 pub mod RowParts

@@ -6,3 +6,5 @@ pub mod Checks
 pub mod Judgement
 pub mod BlockJudgement
 pub mod JudgeLaws
+pub mod Agreement
+pub mod FineLaws
