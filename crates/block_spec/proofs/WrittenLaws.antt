@@ -102,9 +102,13 @@ spends-read spends all = ap (λ found. found >>= all_of spend_of) (elements_of_l
 
 spend-spelled : (spend : Spend) → IsWritableSpend spend → HasSpelling (spend_tree spend)
 unfolding SpelledAs
-spend-spelled spend can =
-    (omega (arith, can.parent), ((spelled spend.puzzle can.puzzle.0 can.puzzle.1).0,
-    (omega (arith, short-number (pos spend.coin.amount)), ((spelled spend.solution can.solution.0 can.solution.1).0, omega arith))))
+spend-spelled spend can = (
+  omega (arith, can.parent),
+  (
+    (spelled spend.puzzle can.puzzle.0 can.puzzle.1).0,
+    (omega (arith, short-number (pos spend.coin.amount)), ((spelled spend.solution can.solution.0 can.solution.1).0, omega arith)),
+  ),
+)
 
 spends-spelled : (spends : List Spend) → AllByRecursion IsWritableSpend spends → AllByRecursion HasSpelling (map spend_tree spends)
 spends-spelled [] all = tt
@@ -146,9 +150,16 @@ tree-read block can =
 tree-spelled : (block : Block) → IsWritable block → HasSpelling (block_tree block)
 tree-spelled block can =
     let spends = list-spelled (map spend_tree block.spends) (spends-spelled block.spends can.spends) in
-    let attested = list-spelled (map signed_tree block.attested) (signed-spelled block.attested can.attested) in
-    (omega (arith, can.previous), (omega (arith, short-number (pos block.height)), (omega (arith, short-number (pos block.seconds)),
-    (omega (arith, can.reward), ((omega arith, (spends, omega arith)), (attested, omega arith))))))
+    let attested = list-spelled (map signed_tree block.attested) (signed-spelled block.attested can.attested) in (
+      omega (arith, can.previous),
+      (
+        omega (arith, short-number (pos block.height)),
+        (
+          omega (arith, short-number (pos block.seconds)),
+          (omega (arith, can.reward), ((omega arith, (spends, omega arith)), (attested, omega arith))),
+        ),
+      ),
+    )
 
 whole-read : (tree : Tree) → HasSpelling tree → whole_read (spelling tree) ≡ IsTree tree
 whole-read tree has =

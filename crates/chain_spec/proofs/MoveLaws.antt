@@ -38,9 +38,11 @@ follow-first ledger (block ∷ blocks) more follow = (follow.0, follow-first (af
 pub undone-is-sound : UndoneIsSound
 undone-is-sound view count sound =
     let blocks = view.chain.blocks in
-    let kept = length blocks - count in
-    (sound.0, follow-first (start_ledger view.chain) (take kept blocks) (drop kept blocks)
-    (subst (CanFollow (start_ledger view.chain)) (sym (take-append-drop kept blocks)) sound.1))
+    let kept = length blocks - count in (
+      sound.0,
+      follow-first (start_ledger view.chain) (take kept blocks) (drop kept blocks)
+          (subst (CanFollow (start_ledger view.chain)) (sym (take-append-drop kept blocks)) sound.1),
+    )
 
 -- ---- what was touched
 

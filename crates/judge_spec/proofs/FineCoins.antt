@@ -1,7 +1,7 @@
 -- The coins, the cost and the fee of a Fine list.
 use Rattle.std.proofs.Common.{◌≡◌, ℕ, suc, ◌+◌, ◌*◌, ◌-◌, ◌^◌, ◌<◌, ◌≤◌, ◌&&◌, ◌||◌, not, Bool, true, false, cond, nat_lt, Option, Some, None, Result, Ok, Err, List, [], ◌∷◌, ◌++◌, map, length, refl, ap, sym, ◌∙◌, subst, arith}
 use Rattle.std.specs.Prelude.{is_some, is_none, position, if◌then◌else◌}
-use Rattle.std.specs.List.{AllByRecursion, IsDistinct, list_any, list_all, prefix_len}
+use Rattle.std.specs.List.{AllByRecursion, IsDistinct, list_any, list_all, prefix_len, sum_by}
 use Rattle.std.specs.Str.{bytes_eq}
 use Rattle.std.proofs.lemmas.Bool.{or_parts, or_left, not-false, ltb-false, and_from}
 use Rattle.std.proofs.lemmas.Bool.Decides.{nat_tests}
@@ -171,10 +171,10 @@ pub fine-costs-something : FineCostsSomething
 fine-costs-something terms ledger list attested cost fee e =
     let says = fine-is-kept terms ledger list attested cost fee e in
     let is = (cost-in (cost_of terms ledger.peak list) (fee_of list) cost fee says.2).0 in
-    at-least (generator_bytes (spends_in list)) cost is (adds_up (spends_in list))
+    at-least (generator_bytes (spends_in list)) (sum_by (charged terms ledger.peak) list) (sum_by added_bytes (spends_in list)) cost is (adds_up (spends_in list))
   where
-    at-least : (bytes cost : ℕ) {rest more : ℕ} → 12_000 * bytes + rest ≡ cost → bytes ≡ 5 + more → 12_000 * 5 ≤ cost
-    at-least bytes cost is e = omega arith
+    at-least : (bytes charges added cost : ℕ) → 12_000 * bytes + charges ≡ cost → bytes ≡ 5 + added → 12_000 * 5 ≤ cost
+    at-least bytes charges added cost is e = omega arith
 
 amounts-below : (list : List Facts) → AllByRecursion (λ facts. facts.spend.coin.amount < 2 ^ 64) list → spent_amounts (map acts_of list) ≤ length list * (2 ^ 64 - 1)
 amounts-below [] all = omega arith

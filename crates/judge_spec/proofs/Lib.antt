@@ -3,6 +3,7 @@ pub mod AgreementLaws
 pub mod FactLaws
 pub mod FineLaws
 pub mod FineCoins
+pub mod ConnectLaws
 mod FineRows
 mod PairRows
 pub mod RowParts

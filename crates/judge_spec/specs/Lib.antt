@@ -8,3 +8,4 @@ pub mod BlockJudgement
 pub mod JudgeLaws
 pub mod Agreement
 pub mod FineLaws
+pub mod ConnectLaws

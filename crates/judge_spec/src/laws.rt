@@ -1,5 +1,6 @@
 //! Laws of the definitions. Each is the contract of a function that does nothing.
 ghost use Rattle.judge_spec.specs.Agreement.{LooksAtItsCoins, SpendsLookAtTheirCoins};
+ghost use Rattle.judge_spec.specs.ConnectLaws.{FineConnects, FineStaysSound};
 ghost use Rattle.judge_spec.specs.FineLaws.{FineIsSpendable, FineCostsSomething, FineFeeFits, FineHasFacts, FineHasItsPuzzles};
 ghost use Rattle.judge_spec.specs.JudgeLaws.{FactsKeep, FactsOrSpent, FactsDecide, FirstIsTold, NoneIsTold, AttestedIsASet, FineIsKept, FineIsWithinTheLimit, NewCoinsLast};
 
@@ -42,6 +43,12 @@ pub fn fine_is_spendable()
 pub fn fine_has_facts()
     ensures facts { FineHasFacts }
     ensures puzzles { FineHasItsPuzzles }
+{}
+
+/// A block that breaks no rule can be connected, with its reward coin, and the chain stays sound.
+pub fn fine_connects()
+    ensures block { FineConnects }
+    ensures chain { FineStaysSound }
 {}
 
 /// Created ids are looked up last.
