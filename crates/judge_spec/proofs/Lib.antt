@@ -1,5 +1,6 @@
 pub mod CheckLaws
 pub mod AgreementLaws
+pub mod PartLaws
 pub mod FactLaws
 pub mod FineLaws
 pub mod FineCoins
