@@ -1,0 +1,3 @@
+pub mod Commands
+pub mod Steps
+pub mod Histories
