@@ -17,42 +17,42 @@ abbrev pub Members : Type 0
 Members = List Compiled → (lane : ℕ) → Data → Result Command What
 
 abbrev pub admit : Members
-admit modules lane object = do
-  value ← required member.Bundle (plain if_object) object
+admit modules lane fields = do
+  value ← required member.Bundle (plain if_object) fields
   bundle ← bundle_in modules value
   Ok (commands.Admit lane bundle)
 
 abbrev pub assemble : Members
-assemble modules lane object = do
-  seconds ← required member.Seconds (plain whole_number) object
-  reward_hash ← required member.RewardHash (hash_value modules) object
+assemble modules lane fields = do
+  seconds ← required member.Seconds (plain whole_number) fields
+  reward_hash ← required member.RewardHash (hash_value modules) fields
   Ok (commands.Assemble lane seconds reward_hash)
 
 abbrev pub farm : Members
-farm modules lane object = do
-  seconds ← required member.Seconds (plain whole_number) object
-  reward_hash ← required member.RewardHash (hash_value modules) object
+farm modules lane fields = do
+  seconds ← required member.Seconds (plain whole_number) fields
+  reward_hash ← required member.RewardHash (hash_value modules) fields
   Ok (commands.Farm lane seconds reward_hash)
 
 abbrev pub block : Members
-block modules lane object = required member.Bytes (plain some_bytes) object >>= λ bytes. Ok (commands.Block lane bytes)
+block modules lane fields = required member.Bytes (plain some_bytes) fields >>= λ bytes. Ok (commands.Block lane bytes)
 
 -- how many blocks can be asked back at most
 abbrev pub most_blocks : ℕ
 most_blocks = 2 ^ 32 - 1
 
 abbrev pub rollback : Members
-rollback modules lane object =
-    required member.Blocks (plain (number_between 0 most_blocks)) object >>= λ blocks. Ok (commands.Rollback lane blocks)
+rollback modules lane fields =
+    required member.Blocks (plain (number_between 0 most_blocks)) fields >>= λ blocks. Ok (commands.Rollback lane blocks)
 
 abbrev pub coin : Members
-coin modules lane object = required member.Id (plain bytes_of_hash) object >>= λ id. Ok (commands.Coin lane id)
+coin modules lane fields = required member.Id (plain bytes_of_hash) fields >>= λ id. Ok (commands.Coin lane id)
 
 abbrev pub list_pool : Members
-list_pool modules lane object = Ok (commands.List lane)
+list_pool modules lane fields = Ok (commands.List lane)
 
 abbrev pub tell_peak : Members
-tell_peak modules lane object = Ok (commands.Peak lane)
+tell_peak modules lane fields = Ok (commands.Peak lane)
 
 -- a word of `do`, and its further members
 pub record Deed : Type 0 where
@@ -79,7 +79,7 @@ deed_of value = option_and_then (λ text. find (λ d. bytes_eq d.word text) deed
 
 -- the command of a line of a session with so many lanes; without a lane it is in lane 0
 abbrev pub command_in : List Compiled → (lanes : ℕ) → Data → Result Command What
-command_in modules lanes object = do
-  found ← required member.Do (plain deed_of) object
-  lane ← optional member.Lane 0 (plain (number_between 0 (lanes - 1))) object
-  found.members modules lane object
+command_in modules lanes fields = do
+  found ← required member.Do (plain deed_of) fields
+  lane ← optional member.Lane 0 (plain (number_between 0 (lanes - 1))) fields
+  found.members modules lane fields

@@ -11,3 +11,9 @@ pub mod Values
 pub mod LineMembers
 pub mod BundleMembers
 pub mod LineKinds
+pub mod CommandLines
+pub mod Sessions
+pub mod Words
+pub mod Outputs
+pub mod Replays
+pub mod Making

@@ -51,7 +51,7 @@ kinds = SessionLine ∷ ModuleLine ∷ SingletonLine ∷ CoinLine ∷ CommandLin
 
 -- the first of the kinds whose member an object has
 abbrev pub kind_of : Data → Option Kind
-kind_of object = find (λ kind. is_some (get (name_of (member_of kind)) object)) kinds
+kind_of fields = find (λ kind. is_some (get (name_of (member_of kind)) fields)) kinds
 
 -- ---- order
 
@@ -79,7 +79,7 @@ may_follow (Some before) kind = nat_lt (rank before) (rank kind) || (rank before
 
 pub record Line : Type 0 where
   pub kind : Kind
-  pub object : Data
+  pub fields : Data
 
 abbrev pub value_in : List ℕ → Result Data What
 value_in line = if is_utf8 line then ok_or (read line) NotJson else Err NotJson
@@ -93,6 +93,6 @@ Order = Option Kind → Line → Bool
 
 abbrev pub line_in : Order → Option Kind → List ℕ → Result Line What
 line_in order before line = do
-  object ← object_in line
-  kind ← ok_or (kind_of object) UnknownKind
-  unless (not (order before (record { kind = kind; object = object }))) OutOfOrder (Ok (record { kind = kind; object = object }))
+  fields ← object_in line
+  kind ← ok_or (kind_of fields) UnknownKind
+  unless (not (order before (record { kind = kind; fields = fields }))) OutOfOrder (Ok (record { kind = kind; fields = fields }))

@@ -96,8 +96,8 @@ found_or absent member read (Some value) = of_form member (read value)
 
 -- a member that has to be there
 abbrev pub required : {A : Type 0} → Member → (Data → Result A Wrong) → Data → Result A What
-required member read object = found_or (Err (Missing member)) member read (get (name_of member) object)
+required member read value = found_or (Err (Missing member)) member read (get (name_of member) value)
 
 -- a member that may be left out, for this value
 abbrev pub optional : {A : Type 0} → Member → A → (Data → Result A Wrong) → Data → Result A What
-optional member default read object = found_or (Ok default) member read (get (name_of member) object)
+optional member default read value = found_or (Ok default) member read (get (name_of member) value)

@@ -45,14 +45,14 @@ abbrev pub no_singleton : Hash32
 no_singleton = record { bytes = repeat HASH_BYTES (0 ∷ []) }
 
 abbrev pub header_in : Data → Result Header What
-header_in object = do
-  version ← required member.Session (plain (number_between VERSION VERSION)) object
-  genesis ← required member.Genesis (plain bytes_of_hash) object
-  seconds ← required member.Seconds (plain whole_number) object
-  lanes ← optional member.Lanes DEFAULT_LANES (plain (number_between 1 MOST_LANES)) object
-  max_cost ← optional member.MaxCost DEFAULT_MAX_COST (plain (number_between LEAST_MAX_COST GREATEST_MAX_COST)) object
-  pool_cost ← optional member.PoolCost DEFAULT_POOL_COST (plain (number_between 0 GREATEST_POOL_COST)) object
-  reward ← optional member.Reward 0 (plain whole_number) object
+header_in fields = do
+  version ← required member.Session (plain (number_between VERSION VERSION)) fields
+  genesis ← required member.Genesis (plain bytes_of_hash) fields
+  seconds ← required member.Seconds (plain whole_number) fields
+  lanes ← optional member.Lanes DEFAULT_LANES (plain (number_between 1 MOST_LANES)) fields
+  max_cost ← optional member.MaxCost DEFAULT_MAX_COST (plain (number_between LEAST_MAX_COST GREATEST_MAX_COST)) fields
+  pool_cost ← optional member.PoolCost DEFAULT_POOL_COST (plain (number_between 0 GREATEST_POOL_COST)) fields
+  reward ← optional member.Reward 0 (plain whole_number) fields
   Ok (record { genesis = genesis; seconds = seconds; lanes = lanes; max_cost = max_cost; pool_cost = pool_cost; reward = reward; singleton = no_singleton })
 
 abbrev pub started : Header → Session
@@ -98,22 +98,22 @@ abbrev pub curried_code : List ℕ → List (List ℕ) → List ℕ
 curried_code program arguments = spelling (curried (spelled_tree program) (map spelled_tree arguments))
 
 abbrev pub source_line : Texts → List (List ℕ) → Session → List ℕ → Data → Result Session What
-source_line texts codes session name object = required member.Source (plain as_str) object >>= by_source texts codes session name
+source_line texts codes session name fields = required member.Source (plain as_str) fields >>= by_source texts codes session name
 
 abbrev pub curry_line : Session → List ℕ → Data → Result Session What
-curry_line session name object = do
-  program ← required member.Curry (code_value session.modules) object
-  arguments ← required member.Arguments (code_values session.modules) object
+curry_line session name fields = do
+  program ← required member.Curry (code_value session.modules) fields
+  arguments ← required member.Arguments (code_values session.modules) fields
   by_curry session name (curried_code program arguments)
 
 -- A line with neither `source` nor `curry`, or with both, is read by `source`.
 abbrev pub has_source : Data → Bool
-has_source object = is_some (get (name_of member.Source) object) || not (is_some (get (name_of member.Curry) object))
+has_source fields = is_some (get (name_of member.Source) fields) || not (is_some (get (name_of member.Curry) fields))
 
 abbrev pub module_line : Texts → List (List ℕ) → Session → Data → Result Session What
-module_line texts codes session object = do
-  name ← required member.Module (plain module_name) object
-  if has_source object then source_line texts codes session name object else curry_line session name object
+module_line texts codes session fields = do
+  name ← required member.Module (plain module_name) fields
+  if has_source fields then source_line texts codes session name fields else curry_line session name fields
 
 -- ---- singleton, coin and command lines
 
@@ -121,7 +121,7 @@ abbrev pub with_singleton : Session → Hash32 → Session
 with_singleton session hash = record session { header = record session.header { singleton = hash } }
 
 abbrev pub singleton_line : Session → Data → Result Session What
-singleton_line session object = required member.Singleton (hash_value session.modules) object >>= λ hash. Ok (with_singleton session hash)
+singleton_line session fields = required member.Singleton (hash_value session.modules) fields >>= λ hash. Ok (with_singleton session hash)
 
 abbrev pub with_coin : Session → Coin → Result Session What
 with_coin session coin =
@@ -129,24 +129,24 @@ with_coin session coin =
     (unless_full MOST_COINS (length session.coins) (record session { coins = session.coins ++ coin ∷ [] }))
 
 abbrev pub coin_line : Session → Data → Result Session What
-coin_line session object = coin_member session.modules object >>= with_coin session
+coin_line session fields = coin_member session.modules fields >>= with_coin session
 
 abbrev pub with_command : Session → Command → Result Session What
 with_command session command =
     unless_full MOST_COMMANDS (length session.commands) (record session { commands = session.commands ++ command ∷ [] })
 
 abbrev pub command_line : Session → Data → Result Session What
-command_line session object = command_in session.modules session.header.lanes object >>= with_command session
+command_line session fields = command_in session.modules session.header.lanes fields >>= with_command session
 
 -- ---- line after line
 
 -- A session line is the first alone.
 abbrev pub with_line : Texts → List (List ℕ) → Session → Kind → Data → Result Session What
-with_line texts codes session SessionLine object = Err OutOfOrder
-with_line texts codes session ModuleLine object = module_line texts codes session object
-with_line texts codes session SingletonLine object = singleton_line session object
-with_line texts codes session CoinLine object = coin_line session object
-with_line texts codes session CommandLine object = command_line session object
+with_line texts codes session SessionLine fields = Err OutOfOrder
+with_line texts codes session ModuleLine fields = module_line texts codes session fields
+with_line texts codes session SingletonLine fields = singleton_line session fields
+with_line texts codes session CoinLine fields = coin_line session fields
+with_line texts codes session CommandLine fields = command_line session fields
 
 -- the kind of the last line, and the session so far
 pub record Walk : Type 0 where
@@ -156,7 +156,7 @@ pub record Walk : Type 0 where
 abbrev pub after_line : Order → Texts → List (List ℕ) → Walk → List ℕ → Result Walk What
 after_line order texts codes walk bytes = do
   line ← line_in order (Some walk.before) bytes
-  session ← with_line texts codes walk.session line.kind line.object
+  session ← with_line texts codes walk.session line.kind line.fields
   Ok (record { before = line.kind; session = session })
 
 -- a faulty line with its number, and the modules of the lines before it
@@ -177,7 +177,7 @@ walked order texts codes walk (line ∷ lines) =
 abbrev pub first_line : Order → List ℕ → Result Walk What
 first_line order bytes = do
   line ← line_in order None bytes
-  header ← header_in line.object
+  header ← header_in line.fields
   Ok (record { before = line.kind; session = started header })
 
 -- Where there is no line, the session is missing in line 1.
@@ -226,18 +226,18 @@ is_text word None = false
 is_text word (Some text) = bytes_eq text word
 
 abbrev pub does_block : Data → Bool
-does_block object = is_text (codes "block") (option_and_then as_str (get (name_of member.Do) object))
+does_block fields = is_text (codes "block") (option_and_then as_str (get (name_of member.Do) fields))
 
 -- A replay has a session line, coin lines and `block` commands; any other line is out of order.
 abbrev pub is_of_replay : Kind → Data → Bool
-is_of_replay SessionLine object = true
-is_of_replay ModuleLine object = false
-is_of_replay SingletonLine object = false
-is_of_replay CoinLine object = true
-is_of_replay CommandLine object = does_block object
+is_of_replay SessionLine fields = true
+is_of_replay ModuleLine fields = false
+is_of_replay SingletonLine fields = false
+is_of_replay CoinLine fields = true
+is_of_replay CommandLine fields = does_block fields
 
 abbrev pub in_replay : Order
-in_replay before line = may_follow before line.kind && is_of_replay line.kind line.object
+in_replay before line = may_follow before line.kind && is_of_replay line.kind line.fields
 
 abbrev pub no_texts : Texts
 no_texts name = None
