@@ -48,11 +48,11 @@ ids-spent height spent (one ∷ records) =
     same true = refl
     same false = refl
 
-ids-made : (height seconds : ℕ) (coins : List Coin) → ids_of (map (made_at height seconds) coins) ≡ map coin_id coins
+pub ids-made : (height seconds : ℕ) (coins : List Coin) → ids_of (map (made_at height seconds) coins) ≡ map coin_id coins
 ids-made height seconds [] = refl
 ids-made height seconds (coin ∷ coins) = ap (λ ids. coin_id coin ∷ ids) (ids-made height seconds coins)
 
-not-found : (id : Hash32) (records : List Record) → is_some (find (λ one. has_id id one.coin) records) ≡ false → is_among (ids_of records) id ≡ false
+pub not-found : (id : Hash32) (records : List Record) → is_some (find (λ one. has_id id one.coin) records) ≡ false → is_among (ids_of records) id ≡ false
 not-found id [] e = refl
 not-found id (one ∷ records) e = step (has_id id one.coin) refl e (not-found id records)
   where

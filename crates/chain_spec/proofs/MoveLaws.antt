@@ -1,18 +1,21 @@
 -- Chains and records after connects and undos.
-use Rattle.std.proofs.Common.{◌≡◌, ℕ, zero, suc, ◌-◌, Bool, true, false, ◌||◌, List, [], ◌∷◌, ◌++◌, map, length, take, drop, refl, ap, sym, ◌∙◌, subst, append_assoc}
+use Rattle.std.proofs.Common.{◌≡◌, ℕ, zero, suc, ◌+◌, ◌-◌, Bool, true, false, ◌||◌, List, [], ◌∷◌, ◌++◌, map, length, take, drop, refl, ap, sym, ◌∙◌, subst, append_assoc, arith}
 use Rattle.std.specs.Prelude.{reverse}
-use Rattle.std.specs.List.{flat_map, list_any}
+use Rattle.std.specs.List.{IsDistinct, flat_map, list_any}
 use Rattle.std.proofs.lemmas.Bool.{or_parts, or_from}
-use Rattle.std.proofs.lemmas.List.{append-nil, reverse-append, take-append-drop, drop_at}
+use Rattle.std.proofs.lemmas.List.{map-append, append-nil, reverse-append, take-append-drop, drop_at}
 use Rattle.std.proofs.lemmas.List.Concat.{flat_map-append}
 use Rattle.std.proofs.lemmas.List.Folds.{list_any-append}
 use Rattle.coin_facts.specs.declared.hash32.Hash32.{Hash32}
+use Rattle.coin_facts.specs.declared.coin.Coin.{Coin}
 use Rattle.coin_facts.specs.CoinId.{coin_id}
 use Rattle.coin_facts.specs.IdLists.{is_same_id, is_among}
-use Rattle.chain_spec.specs.Chain.{Ledger, Connected, Chain, look_up, touched_by, after_block, after_blocks, start_ledger, ledger_of}
-use Rattle.chain_spec.specs.Soundness.{CanConnect, CanFollow, IsSound}
-use Rattle.chain_spec.specs.StoreViews.{StoreView, connected, without_last}
-use Rattle.chain_spec.specs.ChangeLaws.{with_one_more, LedgerGrows, ConnectedIsSound, UndoneIsSound, Move, Connects, Undoes, moved, after_moves, changed_since, ChangesGrow, ChangesTell}
+use Rattle.chain_spec.specs.Chain.{Ledger, Connected, Chain, look_up, is_in_chain, touched_by, start_record, after_block, after_blocks, start_ledger, ledger_of}
+use Rattle.chain_spec.specs.Soundness.{HasDistinctIds, CanConnect, CanFollow, IsSound}
+use Rattle.chain_spec.specs.StoreViews.{StoreView, started, connected, without_last}
+use Rattle.chain_spec.specs.ChangeLaws.{with_one_more, LedgerGrows, ConnectedIsSound, StartedIsSound, HeightIsBlocks, UndoneIsSound, Move, Connects, Undoes, moved, after_moves, changed_since, ChangesGrow, ChangesTell}
+use Rattle.chain_spec.specs.ChainLaws.{ids_of}
+use Rattle.chain_spec.proofs.DistinctLaws.{ids-made, not-found, distinct-append}
 use Rattle.chain_spec.proofs.LookLaws.{untouched}
 
 -- ---- chains
@@ -30,6 +33,33 @@ follow-one ledger (first ∷ blocks) block follow can = (follow.0, follow-one (a
 
 pub connected-is-sound : ConnectedIsSound
 connected-is-sound chain block sound can = (sound.0, follow-one (start_ledger chain) chain.blocks block sound.1 can)
+
+-- A chain without blocks is sound where the ids of its coins are distinct.
+sound-start : (chain : Chain) (blocks : List Connected) → blocks ≡ [] → chain.blocks ≡ blocks → HasDistinctIds chain.coins → IsSound chain
+sound-start chain blocks none are distinct = (distinct, subst (CanFollow (start_ledger chain)) (sym (are ∙ none)) tt)
+
+alone : (id : Hash32) → IsDistinct is_same_id (id ∷ [])
+unfolding IsDistinct
+alone id = (tt, tt)
+
+pub started-is-sound : StartedIsSound
+started-is-sound view coin none sound new =
+    let chain = view.chain in
+    let records = map (start_record chain.seconds) chain.coins in
+    let ids = map coin_id chain.coins in
+    let id = coin_id coin in
+    let start : ledger_of chain ≡ start_ledger chain = ap (after_blocks (start_ledger chain)) none in
+    let absent : is_among (ids_of records) id ≡ false = not-found id records (ap (λ ledger. is_in_chain ledger id) (sym start) ∙ new) in
+    let apart : is_among ids id ≡ false = ap (λ ids. is_among ids id) (sym (ids-made 0 chain.seconds chain.coins)) ∙ absent in
+    sound-start (started coin view).chain chain.blocks none refl
+    (subst (IsDistinct is_same_id) (sym (map-append coin_id chain.coins (coin ∷ []))) (distinct-append ids (id ∷ []) sound.0 (alone id) (apart, tt)))
+
+height-after : (ledger : Ledger) (blocks : List Connected) → (after_blocks ledger blocks).peak.height ≡ ledger.peak.height + length blocks
+height-after ledger [] = omega arith
+height-after ledger (block ∷ blocks) = height-after (after_block ledger block) blocks ∙ omega arith
+
+pub height-is-blocks : HeightIsBlocks
+height-is-blocks chain = height-after (start_ledger chain) chain.blocks ∙ omega arith
 
 follow-first : (ledger : Ledger) (blocks more : List Connected) → CanFollow ledger (blocks ++ more) → CanFollow ledger blocks
 follow-first ledger [] more follow = tt

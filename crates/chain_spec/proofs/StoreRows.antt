@@ -14,7 +14,7 @@ use Rattle.chain_spec.specs.declared.chain.Unspent.TheVariants as unspent
 use Rattle.chain_spec.specs.Chain.{Ledger, Connected, Chain, ledger_of, records_of, peak_of, look_up}
 use Rattle.chain_spec.specs.Looks.{unspent_of, part_of}
 use Rattle.chain_spec.specs.Soundness.{CanConnect, IsSound}
-use Rattle.chain_spec.specs.StoreViews.{StoreView, connected, undone, reverted}
+use Rattle.chain_spec.specs.StoreViews.{StoreView, started, connected, undone, reverted}
 
 -- ---- the parts
 
@@ -121,6 +121,10 @@ a_connect_reverted = refl
 
 an_undo_reverted : option_map reverted (undone 2 two_blocks) ≡ Some (record { chain = two_blocks.chain; changes = touched; before = None })
 an_undo_reverted = refl
+
+a_coin_more_to_start_with : started (coin 8) (record start { changes = touched; before = Some (start.chain, []) })
+    ≡ record { chain = record start.chain { coins = coin 1000 ∷ coin 7 ∷ coin 8 ∷ [] }; changes = touched; before = None }
+a_coin_more_to_start_with = refl
 
 -- ---- soundness
 

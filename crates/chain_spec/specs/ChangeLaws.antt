@@ -2,13 +2,15 @@
 use Rattle.std.specs.Prelude.{◌≡◌, ℕ, ◌==◌, ◌&&◌, List, [], ◌∷◌, ◌++◌, length, drop, Bool, true, false, Option, Some, None}
 use Rattle.std.specs.List.{IsDistinct}
 use Rattle.coin_facts.specs.declared.hash32.Hash32.{Hash32}
+use Rattle.coin_facts.specs.declared.coin.Coin.{Coin}
+use Rattle.coin_facts.specs.CoinId.{coin_id}
 use Rattle.coin_facts.specs.IdLists.{is_same_id, is_among}
 use Rattle.chain_spec.specs.declared.chain.Record.{Record}
-use Rattle.chain_spec.specs.Chain.{Ledger, Connected, Chain, look_up, after_block, ledger_of}
+use Rattle.chain_spec.specs.Chain.{Ledger, Connected, Chain, look_up, is_in_chain, after_block, ledger_of, peak_of}
 use Rattle.chain_spec.specs.Soundness.{CanConnect, IsSound}
 use Rattle.chain_spec.specs.Looks.{unspent_of}
 use Rattle.chain_spec.specs.ChainLaws.{ids_of}
-use Rattle.chain_spec.specs.StoreViews.{StoreView, connected, without_last}
+use Rattle.chain_spec.specs.StoreViews.{StoreView, started, connected, without_last}
 
 -- ---- chains that grow and shrink
 
@@ -23,7 +25,16 @@ LedgerGrows = (chain : Chain) (block : Connected) → ledger_of (with_one_more b
 abbrev pub ConnectedIsSound : Type 0
 ConnectedIsSound = (chain : Chain) (block : Connected) → IsSound chain → CanConnect (ledger_of chain) block → IsSound (with_one_more block chain)
 
--- It stays sound without its last blocks.
+-- A chain without blocks stays sound with a start coin whose id isn't there.
+abbrev pub StartedIsSound : Type 0
+StartedIsSound = (view : StoreView) (coin : Coin) → view.chain.blocks ≡ [] → IsSound view.chain → is_in_chain (ledger_of view.chain) (coin_id coin) ≡ false →
+    IsSound (started coin view).chain
+
+-- The peak's height is the number of blocks.
+abbrev pub HeightIsBlocks : Type 0
+HeightIsBlocks = (chain : Chain) → (peak_of chain).height ≡ length chain.blocks
+
+-- A sound chain stays sound without its last blocks.
 abbrev pub UndoneIsSound : Type 0
 UndoneIsSound = (view : StoreView) (count : ℕ) → IsSound view.chain → IsSound (without_last count view).chain
 

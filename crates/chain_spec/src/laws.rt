@@ -1,5 +1,5 @@
 //! Laws of the definitions. Each is the contract of a function that does nothing.
-ghost use Rattle.chain_spec.specs.ChangeLaws.{LedgerGrows, ConnectedIsSound, UndoneIsSound, ChangesGrow, ChangesTell, PairsStand};
+ghost use Rattle.chain_spec.specs.ChangeLaws.{LedgerGrows, ConnectedIsSound, StartedIsSound, HeightIsBlocks, UndoneIsSound, ChangesGrow, ChangesTell, PairsStand};
 ghost use Rattle.chain_spec.specs.ChainLaws.{RecordsAreApart, UntouchedStand, PartSufficesForIds, PartSufficesForPairs};
 
 /// No two records of a sound chain have one id.
@@ -18,11 +18,14 @@ pub fn part_suffices()
     ensures pairs { PartSufficesForPairs }
 {}
 
-/// A sound chain stays sound with a block that can be connected, and without its last ones.
+/// A sound chain stays sound with a block that can be connected, without its last ones, and with a start coin more. Its
+/// height is the number of its blocks.
 pub fn chains_stay_sound()
     ensures ledger { LedgerGrows }
     ensures connected { ConnectedIsSound }
     ensures undone { UndoneIsSound }
+    ensures started { StartedIsSound }
+    ensures height { HeightIsBlocks }
 {}
 
 /// The change list grows, and tells each record that isn't as before.

@@ -1,5 +1,5 @@
 //! Laws of the definitions. Each is the contract of a function that does nothing.
-ghost use Rattle.judge_spec.specs.Agreement.{LooksAtItsCoins, SpendsLookAtTheirCoins};
+ghost use Rattle.judge_spec.specs.Agreement.{LooksAtItsCoins, SpendsLookAtTheirCoins, RecordsAgree, PartDecides};
 ghost use Rattle.judge_spec.specs.ConnectLaws.{FineConnects, FineStaysSound};
 ghost use Rattle.judge_spec.specs.FineLaws.{FineIsSpendable, FineCostsSomething, FineFeeFits, FineHasFacts, FineHasItsPuzzles};
 ghost use Rattle.judge_spec.specs.JudgeLaws.{FactsKeep, FactsOrSpent, FactsDecide, FirstIsTold, NoneIsTold, AttestedIsASet, FineIsKept, FineIsWithinTheLimit, NewCoinsLast};
@@ -60,4 +60,10 @@ pub fn new_coins_last()
 pub fn looks_at_its_coins()
     ensures facts { LooksAtItsCoins }
     ensures spends { SpendsLookAtTheirCoins }
+{}
+
+/// Ledgers with the same peak and records of a list's coins agree on it, so a part of a ledger decides.
+pub fn part_decides()
+    ensures agree { RecordsAgree }
+    ensures part { PartDecides }
 {}
