@@ -67,8 +67,12 @@ impl State {
         ensures { TakesAnswer start answer self.old self.new }
     {
         self.left.cost -= answer.cost;
-        self.left.pairs -= answer.pairs;
-        self.left.bytes -= answer.bytes;
+        if answer.pairs > 0 {
+            self.left.pairs -= answer.pairs;
+        }
+        if answer.bytes > 0 {
+            self.left.bytes -= answer.bytes;
+        }
         self.operands.truncate(start);
     }
 
@@ -98,6 +102,27 @@ impl State {
             Err(fault) => Err(fault_in(frame.form, fault)),
         }
     }
+
+    // The same, inlined: the frame that is passed lies in memory only here, and not in the loop.
+    #[inline(always)]
+    fn value_apart<O: Operators>(
+        &mut self,
+        alloc: Global,
+        trees: &mut Trees,
+        ops: &O,
+        frame: Frame,
+    ) -> Result<Node, RunFault>
+        requires opened { IsOpen trees.old self.old frame }
+        requires ready { frame.programs ≡ 0 }
+        requires other { is_code apply_code (tree_at trees.old frame.code.0) ≡ false }
+        ensures grows { Grows trees.old trees.new }
+        ensures ok { IfOk result (Yields trees.old trees.new self.old self.new (outcome_of trees.old self.old (step.Open frame))) }
+        ensures few_after_fault { OnErr result (length trees.new ≤ length trees.old + length trees.old + self.old.left.pairs + self.old.left.bytes) }
+        ensures fault { IfErr result (IsRunFault trees.new (outcome_of trees.old self.old (step.Open frame))) }
+    {
+        self.value_by_table(alloc, trees, ops, frame)
+    }
+
     // What an operator gives, at once where that can be told, else by the table.
     #[inline(always)]
     fn operator_value<O: Operators>(
@@ -121,7 +146,7 @@ impl State {
                 self.take_answer(start, answer);
                 Ok(answer.value)
             }
-            None => self.value_by_table(alloc, trees, ops, frame),
+            None => self.value_apart(alloc, trees, ops, frame),
         }
     }
     /// Applies an operator to its operands.
