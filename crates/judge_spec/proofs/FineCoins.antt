@@ -51,12 +51,12 @@ unplaced : (b : Bool) (n : ℕ) → cond b (Some n) None ≡ None → b ≡ fals
 unplaced true n e = cc
 unplaced false n e = refl
 
-none-at : {A : Type 0} (p : A → Bool) (xs : List A) → position p xs ≡ None → AllByRecursion (λ x. p x ≡ false) xs
+pub none-at : {A : Type 0} (p : A → Bool) (xs : List A) → position p xs ≡ None → AllByRecursion (λ x. p x ≡ false) xs
 none-at p xs e =
     let first = prefix_len (λ x. not (p x)) xs in
     none-before p xs (ltb-false first (length xs) (unplaced (nat_lt first (length xs)) first e))
 
-neither : (b : Bool) (place : ℕ) (rest : Option ℕ) → (if b then Some place else rest) ≡ None → (b ≡ false) × (rest ≡ None)
+pub neither : (b : Bool) (place : ℕ) (rest : Option ℕ) → (if b then Some place else rest) ≡ None → (b ≡ false) × (rest ≡ None)
 neither true place rest e = cc
 neither false place rest e = (refl, e)
 

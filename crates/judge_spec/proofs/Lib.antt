@@ -5,6 +5,7 @@ pub mod FactLaws
 pub mod FineLaws
 pub mod FineCoins
 pub mod ConnectLaws
+pub mod GrowthLaws
 mod BlockRows
 mod FineRows
 mod PairRows
