@@ -37,6 +37,33 @@ fn fault_in(form: Node, fault: OpFault) -> RunFault
     }
 }
 
+// What the table answers. It stands out of line, so that the loop of a run stays small, and it isn't given the state, so
+// that the loop may keep that in registers.
+#[inline(never)]
+fn table_answer<O: Operators>(
+    alloc: Global,
+    trees: &mut Trees,
+    ops: &O,
+    code: Node,
+    operands: &[Node],
+    left: Fuel,
+) -> Result<Answer, OpFault>
+    requires code_known { IsKnown trees.old code.0 }
+    requires operands_known { AreKnown trees.old operands.now }
+    requires fits { length trees.old + length operands.now + left.pairs + left.bytes < 2 ^ 31 }
+    ensures grows { Grows trees.old trees.new }
+    ensures few { IfOk result (λ answer. length trees.new ≤ length trees.old + answer.pairs + answer.bytes) }
+    ensures within { IfOk result (IsWithin left) }
+    ensures gives { IfOk result (IsAnswer trees.new
+        (outcome_by (tree_at trees.old code.0) (trees_at trees.old operands.now) left)) }
+    ensures few_after_fault { OnErr result
+        (length trees.new ≤ length trees.old + length operands.now + left.pairs + left.bytes) }
+    ensures fault { IfErr result (IsOpFault trees.new
+        (outcome_by (tree_at trees.old code.0) (trees_at trees.old operands.now) left)) }
+{
+    ops.apply(alloc, trees, code, operands, left)
+}
+
 impl State {
     /// Goes on with the first operand as the program and the second as the environment, at the form's depth.
     #[inline(always)]
@@ -76,8 +103,8 @@ impl State {
         self.operands.truncate(start);
     }
 
-    // What an operator gives by the table. It stands out of line, so that the loop of a run stays small.
-    #[inline(never)]
+    // What an operator gives by the table.
+    #[inline(always)]
     fn value_by_table<O: Operators>(
         &mut self,
         alloc: Global,
@@ -94,33 +121,20 @@ impl State {
         ensures fault { IfErr result (IsRunFault trees.new (outcome_of trees.old self.old (step.Open frame))) }
     {
         let start = self.operands.len() - frame.count as usize;
-        match ops.apply(alloc, trees, frame.code, &self.operands[start..], self.left) {
+        match table_answer(
+            alloc,
+            trees,
+            ops,
+            frame.code,
+            &self.operands[start..],
+            self.left,
+        ) {
             Ok(answer) => {
                 self.take_answer(start, answer);
                 Ok(answer.value)
             }
             Err(fault) => Err(fault_in(frame.form, fault)),
         }
-    }
-
-    // The same, inlined: the frame that is passed lies in memory only here, and not in the loop.
-    #[inline(always)]
-    fn value_apart<O: Operators>(
-        &mut self,
-        alloc: Global,
-        trees: &mut Trees,
-        ops: &O,
-        frame: Frame,
-    ) -> Result<Node, RunFault>
-        requires opened { IsOpen trees.old self.old frame }
-        requires ready { frame.programs ≡ 0 }
-        requires other { is_code apply_code (tree_at trees.old frame.code.0) ≡ false }
-        ensures grows { Grows trees.old trees.new }
-        ensures ok { IfOk result (Yields trees.old trees.new self.old self.new (outcome_of trees.old self.old (step.Open frame))) }
-        ensures few_after_fault { OnErr result (length trees.new ≤ length trees.old + length trees.old + self.old.left.pairs + self.old.left.bytes) }
-        ensures fault { IfErr result (IsRunFault trees.new (outcome_of trees.old self.old (step.Open frame))) }
-    {
-        self.value_by_table(alloc, trees, ops, frame)
     }
 
     // What an operator gives, at once where that can be told, else by the table.
@@ -146,7 +160,7 @@ impl State {
                 self.take_answer(start, answer);
                 Ok(answer.value)
             }
-            None => self.value_apart(alloc, trees, ops, frame),
+            None => self.value_by_table(alloc, trees, ops, frame),
         }
     }
     /// Applies an operator to its operands.

@@ -97,7 +97,10 @@ fn evaluate_long_path(
     requires path { tree_at trees.now program.0 ≡ Atom path.now }
     ensures { Begins trees.now program.0 env.0 left.old left.new result }
 {
-    evaluate_path(trees, left, path, program, env)
+    let mut after = *left;
+    let begun = evaluate_path(trees, &mut after, path, program, env);
+    *left = after;
+    begun
 }
 
 #[inline(never)]

@@ -44,4 +44,4 @@ returns-in-Some-clause-ok g c =
 
 pub returns-in-None-clause-fault : goal.returns-in-None-clause-fault
 returns-in-None-clause-fault g c =
-    subst (λ trees. IfErr c.value_apart.result (IsRunFault c.value_apart.new.trees (outcome_of trees c.args.self.now (step.Open c.args.frame)))) c.in-None.ensures c.value_apart.ensures.fault
+    subst (λ trees. IfErr c.value_by_table.result (IsRunFault c.value_by_table.new.trees (outcome_of trees c.args.self.now (step.Open c.args.frame)))) c.in-None.ensures c.value_by_table.ensures.fault
