@@ -1,15 +1,15 @@
 -- What the tests of an atom's bytes say of its number.
-use Rattle.std.proofs.Common.{◌≡◌, ℕ, ◌<◌, Bool, true, false, ◌&&◌, List, length, Option, Some, None, ℤ, pos, nat_lt, ap, sym, ◌∙◌, refl, arith, ⊎_elim}
+use Rattle.std.proofs.Common.{◌≡◌, ℕ, ◌<◌, Bool, true, false, ◌&&◌, List, length, Option, None, ℤ, pos, nat_lt, ap, sym, ◌∙◌, arith}
 use Rattle.std.specs.Prelude.{option_map}
 use Rattle.std.specs.Str.{bytes_eq}
-use Rattle.std.proofs.lemmas.Bool.{cases_Bool, false_from_ne_true, and_parts}
+use Rattle.std.proofs.lemmas.Bool.{false_from_ne_true, and_parts}
 use Rattle.std.proofs.lemmas.Slice.Eq.{bytes_eq-Decides}
 use Rattle.clvm_spec.specs.Tree.{Atom}
 use Rattle.clvm_spec.specs.Numbers.{unsigned, number, is_short, shortest_atom}
 use Rattle.clvm_spec.proofs.LengthLaws.{length_most}
 use Rattle.coin_facts.specs.Steps.{when}
 use Rattle.coin_facts.specs.Atoms.{number_below, is_shortest_below}
-use Rattle.cond_spec.specs.Operands.{moment_of, is_moment}
+use Rattle.cond_spec.specs.Operands.{moment_of}
 
 abbrev tested : Bool → List ℕ → Option ℕ
 tested test bytes = option_map unsigned (when test bytes)

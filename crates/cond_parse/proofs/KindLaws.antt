@@ -1,12 +1,12 @@
 -- What too few operands give.
-use Rattle.std.proofs.Common.{◌≡◌, ℕ, ◌<◌, suc, List, [], ◌∷◌, length, Option, Some, None, ap, ◌∙◌, refl, arith}
+use Rattle.std.proofs.Common.{◌≡◌, ℕ, ◌<◌, List, [], ◌∷◌, length, Option, Some, None, ap, ◌∙◌, refl, arith}
 use Rattle.std.specs.Prelude.{option_and_then}
 use Rattle.clvm_spec.specs.Tree.{Tree, list_tree}
 use Rattle.case_table.specs.Conditions.{Kind, NoOperand, KeyAndText, HashAndAmount, Amount, Text, Hash, Moment, MessageTo, MessageFrom, least_count}
 use Rattle.coin_facts.specs.Atoms.{hash_of, key_of, amount_of}
 use Rattle.cond_spec.specs.declared.condition.Condition.{Condition}
 use Rattle.cond_spec.specs.declared.party.Party.{Party}
-use Rattle.cond_spec.specs.Operands.{text_of, mode_of, moment_of, operand, one, two}
+use Rattle.cond_spec.specs.Operands.{text_of, mode_of, moment_of, one, two}
 use Rattle.cond_spec.specs.Parties.{sender_side, receiver_side, message}
 use Rattle.cond_parse.specs.Kinds.{HasKind}
 

@@ -1,4 +1,4 @@
-use Rattle.std.proofs.Common.{◌≡◌, ◌≤◌, FitsSigned, length, Option, Some, None, ap, ◌∙◌, sym, arith, true, false}
+use Rattle.std.proofs.Common.{◌≡◌, FitsSigned, Some, ap, ◌∙◌, arith, true, false}
 use Rattle.std.specs.Int.{w128, to_be_bytes, cast_unsigned}
 use Rattle.std.proofs.lemmas.Int.{to_z-of_z}
 use Rattle.std.proofs.lemmas.Bool.Decides.{nat_tests}

@@ -1,5 +1,4 @@
-use Rattle.std.proofs.Common.{◌≡◌, ◌≤◌, ◌<◌, length, Option, Some, None, pos, ap, ◌∙◌, sym, arith, true, false, nat_lt}
-use Rattle.std.specs.Int.{w128, to_be_bytes}
+use Rattle.std.proofs.Common.{◌≡◌, Some, pos, ap, ◌∙◌, arith, true, false}
 use Rattle.std.proofs.lemmas.Bool.{lt-ltb, le-ltb}
 use Rattle.clvm_spec.specs.Numbers.{shortest_atom, without_sign_bytes}
 use Rattle.cond_parse.proofs.FormLaws.{long_is_none, is_number_below, not_below}

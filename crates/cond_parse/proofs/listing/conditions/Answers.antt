@@ -1,4 +1,4 @@
-use Rattle.std.proofs.Common.{◌≡◌, ◌+◌, ◌<◌, ◌≤◌, length, ap, ◌∙◌, arith, length-append}
+use Rattle.std.proofs.Common.{◌≡◌, ◌+◌, ◌<◌, length, ap, ◌∙◌, arith, length-append}
 use Rattle.clvm_spec.specs.Tree.{Pair}
 use Rattle.clvm_tree.specs.Nodes.{tree_at}
 use Rattle.cond_spec.specs.declared.condition.Condition.{Condition}
