@@ -43,43 +43,43 @@ pub record ConditionRow : Type 0 where
   pub cost : ℕ
   pub kind : Kind
 
-abbrev pub row : ℕ → List ℕ → ℕ → Kind → ConditionRow
-row code name cost kind = record { code = code; name = name; cost = cost; kind = kind }
+abbrev pub listed : ℕ → List ℕ → ℕ → Kind → ConditionRow
+listed code name cost kind = record { code = code; name = name; cost = cost; kind = kind }
 
 abbrev pub conditions : List ConditionRow
 conditions =
-    row 1 (codes "REMARK") FREE NoOperand
-    ∷ row 43 (codes "AGG_SIG_PARENT") SIGNATURE_COST KeyAndText
-    ∷ row 44 (codes "AGG_SIG_PUZZLE") SIGNATURE_COST KeyAndText
-    ∷ row 45 (codes "AGG_SIG_AMOUNT") SIGNATURE_COST KeyAndText
-    ∷ row 46 (codes "AGG_SIG_PUZZLE_AMOUNT") SIGNATURE_COST KeyAndText
-    ∷ row 47 (codes "AGG_SIG_PARENT_AMOUNT") SIGNATURE_COST KeyAndText
-    ∷ row 48 (codes "AGG_SIG_PARENT_PUZZLE") SIGNATURE_COST KeyAndText
-    ∷ row 49 (codes "AGG_SIG_UNSAFE") SIGNATURE_COST KeyAndText
-    ∷ row 50 (codes "AGG_SIG_ME") SIGNATURE_COST KeyAndText
-    ∷ row 51 (codes "CREATE_COIN") CREATE_COIN_COST HashAndAmount
-    ∷ row 52 (codes "RESERVE_FEE") FREE Amount
-    ∷ row 60 (codes "CREATE_COIN_ANNOUNCEMENT") FREE Text
-    ∷ row 61 (codes "ASSERT_COIN_ANNOUNCEMENT") FREE Hash
-    ∷ row 62 (codes "CREATE_PUZZLE_ANNOUNCEMENT") FREE Text
-    ∷ row 63 (codes "ASSERT_PUZZLE_ANNOUNCEMENT") FREE Hash
-    ∷ row 64 (codes "ASSERT_CONCURRENT_SPEND") FREE Hash
-    ∷ row 65 (codes "ASSERT_CONCURRENT_PUZZLE") FREE Hash
-    ∷ row 66 (codes "SEND_MESSAGE") FREE MessageTo
-    ∷ row 67 (codes "RECEIVE_MESSAGE") FREE MessageFrom
-    ∷ row 70 (codes "ASSERT_MY_COIN_ID") FREE Hash
-    ∷ row 71 (codes "ASSERT_MY_PARENT_ID") FREE Hash
-    ∷ row 72 (codes "ASSERT_MY_PUZZLEHASH") FREE Hash
-    ∷ row 73 (codes "ASSERT_MY_AMOUNT") FREE Amount
-    ∷ row 74 (codes "ASSERT_MY_BIRTH_SECONDS") FREE Moment
-    ∷ row 75 (codes "ASSERT_MY_BIRTH_HEIGHT") FREE Moment
-    ∷ row 76 (codes "ASSERT_EPHEMERAL") FREE NoOperand
-    ∷ row 80 (codes "ASSERT_SECONDS_RELATIVE") FREE Moment
-    ∷ row 81 (codes "ASSERT_SECONDS_ABSOLUTE") FREE Moment
-    ∷ row 82 (codes "ASSERT_HEIGHT_RELATIVE") FREE Moment
-    ∷ row 83 (codes "ASSERT_HEIGHT_ABSOLUTE") FREE Moment
-    ∷ row 84 (codes "ASSERT_BEFORE_SECONDS_RELATIVE") FREE Moment
-    ∷ row 85 (codes "ASSERT_BEFORE_SECONDS_ABSOLUTE") FREE Moment
-    ∷ row 86 (codes "ASSERT_BEFORE_HEIGHT_RELATIVE") FREE Moment
-    ∷ row 87 (codes "ASSERT_BEFORE_HEIGHT_ABSOLUTE") FREE Moment
+    listed 1 (codes "REMARK") FREE NoOperand
+    ∷ listed 43 (codes "AGG_SIG_PARENT") SIGNATURE_COST KeyAndText
+    ∷ listed 44 (codes "AGG_SIG_PUZZLE") SIGNATURE_COST KeyAndText
+    ∷ listed 45 (codes "AGG_SIG_AMOUNT") SIGNATURE_COST KeyAndText
+    ∷ listed 46 (codes "AGG_SIG_PUZZLE_AMOUNT") SIGNATURE_COST KeyAndText
+    ∷ listed 47 (codes "AGG_SIG_PARENT_AMOUNT") SIGNATURE_COST KeyAndText
+    ∷ listed 48 (codes "AGG_SIG_PARENT_PUZZLE") SIGNATURE_COST KeyAndText
+    ∷ listed 49 (codes "AGG_SIG_UNSAFE") SIGNATURE_COST KeyAndText
+    ∷ listed 50 (codes "AGG_SIG_ME") SIGNATURE_COST KeyAndText
+    ∷ listed 51 (codes "CREATE_COIN") CREATE_COIN_COST HashAndAmount
+    ∷ listed 52 (codes "RESERVE_FEE") FREE Amount
+    ∷ listed 60 (codes "CREATE_COIN_ANNOUNCEMENT") FREE Text
+    ∷ listed 61 (codes "ASSERT_COIN_ANNOUNCEMENT") FREE Hash
+    ∷ listed 62 (codes "CREATE_PUZZLE_ANNOUNCEMENT") FREE Text
+    ∷ listed 63 (codes "ASSERT_PUZZLE_ANNOUNCEMENT") FREE Hash
+    ∷ listed 64 (codes "ASSERT_CONCURRENT_SPEND") FREE Hash
+    ∷ listed 65 (codes "ASSERT_CONCURRENT_PUZZLE") FREE Hash
+    ∷ listed 66 (codes "SEND_MESSAGE") FREE MessageTo
+    ∷ listed 67 (codes "RECEIVE_MESSAGE") FREE MessageFrom
+    ∷ listed 70 (codes "ASSERT_MY_COIN_ID") FREE Hash
+    ∷ listed 71 (codes "ASSERT_MY_PARENT_ID") FREE Hash
+    ∷ listed 72 (codes "ASSERT_MY_PUZZLEHASH") FREE Hash
+    ∷ listed 73 (codes "ASSERT_MY_AMOUNT") FREE Amount
+    ∷ listed 74 (codes "ASSERT_MY_BIRTH_SECONDS") FREE Moment
+    ∷ listed 75 (codes "ASSERT_MY_BIRTH_HEIGHT") FREE Moment
+    ∷ listed 76 (codes "ASSERT_EPHEMERAL") FREE NoOperand
+    ∷ listed 80 (codes "ASSERT_SECONDS_RELATIVE") FREE Moment
+    ∷ listed 81 (codes "ASSERT_SECONDS_ABSOLUTE") FREE Moment
+    ∷ listed 82 (codes "ASSERT_HEIGHT_RELATIVE") FREE Moment
+    ∷ listed 83 (codes "ASSERT_HEIGHT_ABSOLUTE") FREE Moment
+    ∷ listed 84 (codes "ASSERT_BEFORE_SECONDS_RELATIVE") FREE Moment
+    ∷ listed 85 (codes "ASSERT_BEFORE_SECONDS_ABSOLUTE") FREE Moment
+    ∷ listed 86 (codes "ASSERT_BEFORE_HEIGHT_RELATIVE") FREE Moment
+    ∷ listed 87 (codes "ASSERT_BEFORE_HEIGHT_ABSOLUTE") FREE Moment
     ∷ []
