@@ -1,11 +1,11 @@
 -- What a list that breaks no rule can break when it grows.
-use Rattle.std.proofs.Common.{◌≡◌, ℕ, suc, ◌+◌, ◌&&◌, ◌||◌, not, Bool, true, false, cond, nat_lt, Option, Some, None, List, [], ◌∷◌, ◌++◌, map, length, refl, ap, sym, ◌∙◌, subst, append_assoc, arith}
-use Rattle.std.specs.Prelude.{is_some, position, option_map, reverse, count_by, if◌then◌else◌}
-use Rattle.std.specs.List.{AllByRecursion, list_any, list_all, flat_map, prefix_len, sum_by}
+use Rattle.std.proofs.Common.{◌≡◌, ℕ, suc, ◌+◌, ◌&&◌, ◌||◌, not, Bool, true, false, cond, nat_lt, Option, Some, None, List, [], ◌∷◌, ◌++◌, map, length, refl, ap, sym, ◌∙◌, append_assoc, arith}
+use Rattle.std.specs.Prelude.{position, reverse, count_by}
+use Rattle.std.specs.List.{AllByRecursion, list_any, list_all, prefix_len, sum_by}
 use Rattle.std.specs.Str.{bytes_eq}
 use Rattle.std.proofs.lemmas.Bool.{or_parts, cond-false}
 use Rattle.std.proofs.lemmas.Bool.Decides.{nat_tests}
-use Rattle.std.proofs.lemmas.List.{map-append, length-append, reverse-append}
+use Rattle.std.proofs.lemmas.List.{map-append, reverse-append}
 use Rattle.std.proofs.lemmas.List.Concat.{flat_map-append}
 use Rattle.std.proofs.lemmas.List.Folds.{list_any-append}
 use Rattle.std.proofs.lemmas.List.Sums.{sum_by-append}
@@ -19,15 +19,15 @@ use Rattle.chain_spec.specs.declared.chain.Peak.{Peak}
 use Rattle.chain_spec.specs.Chain.{look_up, is_in_chain}
 use Rattle.cond_spec.specs.declared.condition.Condition.{Condition}
 use Rattle.cond_spec.specs.declared.condition.Condition.TheVariants.{AssertCoinAnnouncement, AssertPuzzleAnnouncement, AssertConcurrentSpend, AssertConcurrentPuzzle, AssertEphemeral}
-use Rattle.cond_spec.specs.Acts.{Acts, of_spend, of_list, coin_made, spent_ids, spent_puzzles, created_coins, created_ids, spent_amounts, created_amounts, fee_reserved, reserved_fees, coin_announcement, coin_announcements, puzzle_announcement, puzzle_announcements}
+use Rattle.cond_spec.specs.Acts.{Acts, of_spend, of_list, coin_made, spent_ids, spent_puzzles, created_coins, created_ids, fee_reserved, coin_announcement, coin_announcements, puzzle_announcement, puzzle_announcements}
 use Rattle.cond_spec.specs.Locks.{looks_at_record}
-use Rattle.cond_spec.specs.Messages.{Message, is_same_message, times}
+use Rattle.cond_spec.specs.Messages.{Message, is_same_message}
 use Rattle.cond_spec.specs.Signing.{ToSign, to_sign}
-use Rattle.cond_spec.specs.ActRules.{first_with, is_unmade, is_absent, is_born_before}
+use Rattle.cond_spec.specs.ActRules.{is_unmade, is_absent, is_born_before}
 use Rattle.judge_spec.specs.Facts.{Facts, acts_of}
-use Rattle.judge_spec.specs.Checks.{Terms, Scene, id_of, acts_in, first_spend, is_unknown, is_spent_in_chain, has_other_birth, has_wrong_birth, is_too_early, is_too_late, is_attested, is_not_attested, has_old_id, old_id_from, created_by_each, coin_exists}
-use Rattle.judge_spec.specs.Judgement.{Verdict, Fine, spent_twice, cost_of, within_limit, with_costs}
-use Rattle.judge_spec.specs.GrowthLaws.{grown, place_behind, ids_spent, SpentTwiceGrows, CostsGrow, AsksAddedSpends, SpendsGrow, AsksAddedActs, ActsGrow, NewCoinsGrow, BirthsGrow, MessagesGrow, SumsGrow}
+use Rattle.judge_spec.specs.Checks.{Terms, Scene, id_of, acts_in, first_spend, is_unknown, is_spent_in_chain, has_other_birth, has_wrong_birth, is_too_early, is_too_late, is_attested, is_not_attested, has_old_id, old_id_from, created_by_each}
+use Rattle.judge_spec.specs.Judgement.{Verdict, Fine, cost_of, with_costs}
+use Rattle.judge_spec.specs.GrowthLaws.{grown, place_behind, ids_spent, SpentTwiceGrows, CostsGrow, SpendsGrow, AsksAddedActs, ActsGrow, NewCoinsGrow, BirthsGrow, MessagesGrow, SumsGrow}
 use Rattle.judge_spec.proofs.FineLaws.{within-one}
 use Rattle.judge_spec.proofs.FineCoins.{none-at, neither}
 
@@ -143,7 +143,7 @@ spends-grow = (
   (λ kept added attested none. asks-added kept added attested is_too_early (λ facts fails. fails) none),
   (λ kept added attested none. asks-added kept added attested is_too_late (λ facts fails. fails) none),
   (λ kept added attested none. asks-added kept added attested is_not_attested
-  (λ facts fails. all-attested kept added attested (of_spend (to_sign kept.ledger.genesis) (acts_of facts)) fails) none),
+      (λ facts fails. all-attested kept added attested (of_spend (to_sign kept.ledger.genesis) (acts_of facts)) fails) none),
 )
 
 pub grown-births : BirthsGrow

@@ -1,5 +1,5 @@
 -- Ledgers with the same records of a list's coins agree on the list.
-use Rattle.std.proofs.Common.{◌≡◌, ℕ, Bool, true, false, not, Option, List, [], ◌∷◌, ◌++◌, map, refl, ap, sym, ◌∙◌}
+use Rattle.std.proofs.Common.{◌≡◌, ℕ, true, not, List, [], ◌∷◌, ◌++◌, map, refl, ap, sym, ◌∙◌}
 use Rattle.std.specs.Prelude.{ℤ, is_some, option_map, pos, int_le, ◌+ℤ◌}
 use Rattle.std.specs.List.{AllByRecursion, flat_map, list_all}
 use Rattle.std.proofs.lemmas.Bool.{and_parts}
@@ -8,20 +8,16 @@ use Rattle.coin_facts.specs.declared.hash32.Hash32.{Hash32}
 use Rattle.coin_facts.specs.declared.coin.Coin.{Coin}
 use Rattle.coin_facts.specs.CoinId.{coin_id}
 use Rattle.coin_facts.specs.IdLists.{is_among}
-use Rattle.block_spec.specs.declared.attested.Signed.{Signed}
-use Rattle.chain_spec.specs.declared.chain.Record.{Record}
-use Rattle.chain_spec.specs.declared.chain.Peak.{Peak}
 use Rattle.chain_spec.specs.Chain.{Ledger, look_up, is_in_chain}
 use Rattle.chain_spec.specs.Looks.{part_of}
 use Rattle.chain_spec.proofs.LookLaws.{suffices-ids}
 use Rattle.cond_spec.specs.declared.condition.Condition.{Condition}
 use Rattle.cond_spec.specs.declared.condition.Condition.TheVariants.{AssertSecondsRelative, AssertSecondsAbsolute, AssertHeightRelative, AssertHeightAbsolute, AssertBeforeSecondsRelative, AssertBeforeSecondsAbsolute, AssertBeforeHeightRelative, AssertBeforeHeightAbsolute}
 use Rattle.cond_spec.specs.Acts.{Acts, of_spend, of_list, spent_ids, created_ids}
-use Rattle.cond_spec.specs.Locks.{Clock, Seconds, Height, Start, Birth, Zero, Lock, to_reach, to_precede}
-use Rattle.judge_spec.specs.Facts.{Facts, acts_of}
+use Rattle.cond_spec.specs.Locks.{Clock, Seconds, Height, Birth, Zero, Lock, to_reach, to_precede}
+use Rattle.judge_spec.specs.Facts.{acts_of}
 use Rattle.judge_spec.specs.Locked.{now, born, holds_from, is_reached, is_ahead}
-use Rattle.judge_spec.specs.Checks.{Terms}
-use Rattle.judge_spec.specs.Agreement.{AgreeOn, HasSameRecords, RecordsAgree, PartDecides}
+use Rattle.judge_spec.specs.Agreement.{RecordsAgree, PartDecides}
 use Rattle.judge_spec.proofs.AgreementLaws.{looks-at-its-coins}
 
 all-both : {A : Type 0} (P : A → Type 0) (xs ys : List A) → AllByRecursion P xs → AllByRecursion P ys → AllByRecursion P (xs ++ ys)

@@ -1,6 +1,6 @@
 -- What becomes of a list that breaks no rule when it grows: most rules are asked of the added spends alone, against both
 -- parts. It follows from the rules.
-use Rattle.std.specs.Prelude.{◌≡◌, ℕ, ◌+◌, ◌&&◌, ◌||◌, List, [], ◌∷◌, ◌++◌, length, map, reverse, Bool, Option, Some, None, option_map, position}
+use Rattle.std.specs.Prelude.{◌≡◌, ℕ, ◌+◌, ◌&&◌, ◌||◌, List, [], ◌++◌, length, map, reverse, Bool, Option, None, option_map, position}
 use Rattle.std.specs.List.{list_any}
 use Rattle.coin_facts.specs.declared.coin.Coin.{Coin}
 use Rattle.coin_facts.specs.declared.hash32.Hash32.{Hash32}
