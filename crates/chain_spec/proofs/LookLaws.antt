@@ -16,7 +16,7 @@ use Rattle.chain_spec.specs.Looks.{is_unspent_of, is_outside, is_of_pair, is_ask
 use Rattle.chain_spec.specs.ChainLaws.{is_pair, UntouchedStand, PartSufficesForIds, PartSufficesForPairs}
 
 -- ids that test as the same are one id
-same-id : (a b : Hash32) → is_same_id a b ≡ true → a ≡ b
+pub same-id : (a b : Hash32) → is_same_id a b ≡ true → a ≡ b
 same-id a b e = ap (λ bytes. record { bytes = bytes }) ((bytes_eq-Decides a.bytes b.bytes).0 e)
 
 found : Hash32 → Record → Bool

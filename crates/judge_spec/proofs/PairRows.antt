@@ -100,3 +100,33 @@ rules_21_and_22 = refl
 rules_22_and_23 : verdict 11_000_000_000 (there made_and_signs ∷ record { coin = coin_of_signs; height = 4; seconds = 400; spent = None } ∷ []) (made_and_signs ∷ []) ≡ Broken 22 0
 unfolding judgement facts_of conditions_of evaluation head_at tree_at_front without_sign_bytes shortest_atom sha256 digest_bytes hash_after compress rounds schedule first_words
 rules_22_and_23 = refl
+
+rules_7_and_8 : on_chain (asks (malformed ∷ unknown ∷ []) ∷ []) ≡ Broken 7 0
+unfolding judgement facts_of conditions_of evaluation head_at tree_at_front without_sign_bytes shortest_atom sha256 digest_bytes hash_after compress rounds schedule first_words
+rules_7_and_8 = refl
+
+rules_8_and_9 : on_chain (asks (pays 7 ∷ pays 7 ∷ unknown ∷ []) ∷ []) ≡ Broken 8 0
+unfolding judgement facts_of conditions_of evaluation head_at tree_at_front without_sign_bytes shortest_atom sha256 digest_bytes hash_after compress rounds schedule first_words
+rules_8_and_9 = refl
+
+-- ---- the order of spends and rules
+
+-- The cost of the list is asked after rule 10 of the same spend,
+the_cost_of_the_list_after_rule_10 : verdict 500_000 [] (asks (wrong_amount ∷ []) ∷ []) ≡ Broken 10 0
+unfolding judgement facts_of conditions_of evaluation head_at tree_at_front without_sign_bytes shortest_atom sha256 digest_bytes hash_after compress rounds schedule first_words
+the_cost_of_the_list_after_rule_10 = refl
+
+-- and before rule 3 of the next.
+the_cost_of_the_list_before_the_next_spend : verdict 500_000 [] (asks [] ∷ other_puzzle (asks (pays 900 ∷ [])) ∷ []) ≡ Broken 5 0
+unfolding judgement facts_of conditions_of evaluation head_at tree_at_front without_sign_bytes shortest_atom sha256 digest_bytes hash_after compress rounds schedule first_words
+the_cost_of_the_list_before_the_next_spend = refl
+
+-- Up to rule 10 all rules are asked of the first spend, then of the next.
+rule_10_of_the_first_spend : on_chain (asks (wrong_amount ∷ []) ∷ other_puzzle (asks (pays 900 ∷ [])) ∷ []) ≡ Broken 10 0
+unfolding judgement facts_of conditions_of evaluation head_at tree_at_front without_sign_bytes shortest_atom sha256 digest_bytes hash_after compress rounds schedule first_words
+rule_10_of_the_first_spend = refl
+
+-- From rule 11 on each rule is asked of all spends, then the next rule.
+rule_14_of_the_second_spend : on_chain (asks (late ∷ []) ∷ asks (early ∷ []) ∷ []) ≡ Broken 14 1
+unfolding judgement facts_of conditions_of evaluation head_at tree_at_front without_sign_bytes shortest_atom sha256 digest_bytes hash_after compress rounds schedule first_words
+rule_14_of_the_second_spend = refl
