@@ -1,6 +1,6 @@
 -- A bundle has one fit and one price on ledgers that look alike to it.
-use Rattle.std.proofs.Common.{◌≡◌, ℕ, Bool, true, false, not, ◌&&◌, ◌||◌, Option, Some, None, Result, Ok, Err, List, [], ◌∷◌, ◌++◌, length, map, refl, ap, sym, ◌∙◌, subst}
-use Rattle.std.specs.Prelude.{filter, find, option_map, if◌then◌else◌}
+use Rattle.std.proofs.Common.{◌≡◌, ℕ, not, ◌&&◌, ◌||◌, Result, Ok, Err, List, [], ◌∷◌, ◌++◌, map, refl, ap, ◌∙◌}
+use Rattle.std.specs.Prelude.{filter, find, if◌then◌else◌}
 use Rattle.std.specs.List.{AllByRecursion}
 use Rattle.std.specs.Option.{option_or}
 use Rattle.coin_facts.specs.declared.hash32.Hash32.{Hash32}
@@ -8,9 +8,7 @@ use Rattle.coin_facts.specs.declared.coin.Coin.{Coin}
 use Rattle.coin_facts.specs.CoinId.{coin_id}
 use Rattle.coin_facts.specs.IdLists.{is_same_id, has_id, is_among}
 use Rattle.block_spec.specs.declared.spend.Spend.{Spend}
-use Rattle.block_spec.specs.declared.bundle.Bundle.{Bundle}
-use Rattle.chain_spec.specs.Chain.{Ledger, look_up}
-use Rattle.chain_spec.specs.Soundness.{is_unspent}
+use Rattle.chain_spec.specs.Chain.{Ledger}
 use Rattle.judge_spec.specs.declared.class.Class.{Class}
 use Rattle.judge_spec.specs.declared.class.Class.TheVariants.{Plain, Same, Forward}
 use Rattle.judge_spec.specs.declared.limits.Limits.{Limits}
@@ -19,9 +17,9 @@ use Rattle.judge_spec.proofs.AgreementLaws.{spends-look-at-their-coins}
 use Rattle.pool_spec.specs.declared.lineage.Lineage.{Lineage}
 use Rattle.pool_spec.specs.Shape.{where_found, where_held, shape_of}
 use Rattle.pool_spec.specs.Classes.{class_of, classes_of}
-use Rattle.pool_spec.specs.Fit.{Taken, nothing_taken, is_left, is_coin_of, unspent_coins, coins_left, only_coin, coin_of_id, with_parent, lineage_of, moved_onto, moved, fit_by_class, fit_of}
+use Rattle.pool_spec.specs.Fit.{Taken, nothing_taken, is_coin_of, coins_left, only_coin, with_parent, lineage_of, moved_onto, moved, fit_by_class, fit_of}
 use Rattle.pool_spec.specs.Prices.{price_by, facts_in, priced}
-use Rattle.pool_spec.specs.PoolLaws.{coin_in, LookAlike, LookAlikeTo, FitLooksAt, PriceStands}
+use Rattle.pool_spec.specs.PoolLaws.{coin_in, LookAlike, FitLooksAt, PriceStands}
 
 -- ---- lineages
 

@@ -1,5 +1,5 @@
 -- What an admission changes.
-use Rattle.std.proofs.Common.{◌≡◌, ℕ, ◌⊎◌, inl, inr, Bool, true, false, not, cond, if◌then◌else◌, Option, Some, None, Result, Ok, Err, List, [], ◌∷◌, ◌++◌, map, refl, ap, sym, ◌∙◌, subst}
+use Rattle.std.proofs.Common.{◌≡◌, inl, inr, Bool, true, false, not, cond, if◌then◌else◌, Option, Some, None, Result, Ok, Err, List, [], ◌∷◌, ◌++◌, refl, ap, sym, ◌∙◌, subst}
 use Rattle.std.specs.Prelude.{filter, filter_map, nat_lt, ◌+◌}
 use Rattle.std.specs.List.{cons_option, AllByRecursion}
 use Rattle.block_spec.specs.declared.bundle.Bundle.{Bundle}
@@ -10,7 +10,7 @@ use Rattle.judge_spec.specs.declared.rule.Rule.TheVariants.{NoSpend, InPool, Poo
 use Rattle.pool_spec.specs.Prices.{Refusal, refusal, refusal_at, if_found, Priced, priced, bundles_of, costs_of}
 use Rattle.pool_spec.specs.Replacement.{do_conflict, replaced_by, kept_by, unreplaced}
 use Rattle.pool_spec.specs.Pool.{PoolState, priced_in, AdmittedView, Admission, Admits, Refuses, unless_refused, where_ok, in_pool, no_spend, with_room, told_of, entered, admission}
-use Rattle.pool_spec.specs.PoolLaws.{IsMerged, AllArePriced, HasReplaced, ReplacedAreOthers}
+use Rattle.pool_spec.specs.PoolLaws.{IsMerged, ReplacedAreOthers}
 use Rattle.pool_spec.proofs.PriceLaws.{inside, priced-is-fine}
 
 not-refused : (broken : Option Refusal) (found : Admission) (told : AdmittedView) (next : PoolState) → unless_refused broken found ≡ Admits told next → found ≡ Admits told next
@@ -35,6 +35,7 @@ admits-apart told other next after e = (ap view_in e, ap state_in e)
     view_in : Admission → AdmittedView
     view_in (Admits view state) = view
     view_in (Refuses refusal) = told
+
     state_in : Admission → PoolState
     state_in (Admits view state) = state
     state_in (Refuses refusal) = next
@@ -56,7 +57,7 @@ all-priced limits ledger [] all = refl
 all-priced limits ledger (bundle ∷ bundles) all =
     let item = all.0.0 in
     ap (λ found. bundles_of (cons_option (if_found found) (filter_map (λ bundle. if_found (priced limits ledger bundle)) bundles))) all.0.1
-    ∙ (λ j. (priced-is-fine limits ledger bundle item all.0.1).bundle j ∷ all-priced limits ledger bundles all.1 j)
+    ∙ (λ j. (priced-is-fine limits ledger bundle item all.0.1).itself j ∷ all-priced limits ledger bundles all.1 j)
 
 pub replaced-are-others : ReplacedAreOthers
 unfolding admission
@@ -72,7 +73,7 @@ replaced-are-others state bundle told next all e =
     let room = ok-admits (with_room state.limits (kept_by new items) new) (λ rest. Admits (told_of new items) (entered state rest new)) told next fits in
     let rest = room-is-rest state.limits (kept_by new items) new room.0 room.1 in
     let same = admits-apart (told_of new items) told (entered state room.0 new) next room.2 in
-    let bundle_is = (priced-is-fine state.limits ledger bundle new price.1).bundle in
+    let bundle_is = (priced-is-fine state.limits ledger bundle new price.1).itself in
     record {
       replaced = bundles_of (replaced_by new items);
       rest = bundles_of (kept_by new items);

@@ -1,5 +1,5 @@
 -- Laws of fits, prices and admissions, each proved once for the crates above. They follow from the definitions.
-use Rattle.std.specs.Prelude.{◌≡◌, ℕ, ◌⊎◌, List, [], ◌∷◌, ◌++◌, length, map, Ok, Option, option_map}
+use Rattle.std.specs.Prelude.{◌≡◌, ◌⊎◌, List, [], ◌∷◌, ◌++◌, length, map, Ok, Option, option_map}
 use Rattle.std.specs.List.{AllByRecursion}
 use Rattle.coin_facts.specs.declared.hash32.Hash32.{Hash32}
 use Rattle.coin_facts.specs.declared.coin.Coin.{Coin}
@@ -31,11 +31,11 @@ coin_in ledger id = option_map (λ found. found.coin) (look_up ledger id)
 pub record LookAlike (ledger other : Ledger) (taken : Taken) (spend : Spend) : Type 0 where
   pub coin : is_unspent (look_up ledger (coin_id spend.coin)) ≡ is_unspent (look_up other (coin_id spend.coin))
   pub pair :
-    unspent_coins ledger spend.coin.puzzle_hash spend.coin.amount
-    ≡ unspent_coins other spend.coin.puzzle_hash spend.coin.amount
+      unspent_coins ledger spend.coin.puzzle_hash spend.coin.amount
+      ≡ unspent_coins other spend.coin.puzzle_hash spend.coin.amount
   pub parent : (found : Coin) →
-    only_coin (coins_left ledger taken spend.coin.puzzle_hash spend.coin.amount) ≡ Ok found →
-    coin_in ledger found.parent ≡ coin_in other found.parent
+      only_coin (coins_left ledger taken spend.coin.puzzle_hash spend.coin.amount) ≡ Ok found →
+      coin_in ledger found.parent ≡ coin_in other found.parent
 
 -- They look alike to each Forward spend of a bundle.
 abbrev pub LookAlikeTo : Limits → Ledger → Ledger → Taken → Bundle → Type 0
@@ -57,7 +57,7 @@ PriceStands = (limits : Limits) (ledger other : Ledger) (bundle : Bundle) → Lo
 -- ---- what a price says
 
 pub record IsPriceOf (limits : Limits) (ledger : Ledger) (bundle : Bundle) (item : Priced) : Type 0 where
-  pub bundle : item.bundle ≡ bundle
+  pub itself : item.bundle ≡ bundle
   pub classes : item.classes ≡ classes_of limits bundle
   pub places : length item.classes ≡ length item.fit
   pub fit : spends_in item.fit ≡ fit_of limits ledger nothing_taken bundle
