@@ -9,7 +9,7 @@ ghost use Rattle.clvm_spec.specs.OperatorTable.{apply_code};
 ghost use Rattle.clvm_tree.specs.Nodes.{tree_at, IsKnown, AreKnown, Grows};
 ghost use Rattle.clvm_tree.specs.Operators.{trees_at, outcome_by, IsAnswer, IsWithin, IsOpFault};
 ghost use Rattle.clvm_eval.specs.Runs.{IsRunFault};
-ghost use Rattle.clvm_eval.specs.Steps.{IsOpen, Advances, Yields, StepsTo, TakesAnswer, outcome_of};
+ghost use Rattle.clvm_eval.specs.Steps.{IsOpen, Advances, YieldsOf, IsFaultOf, FewNodes, StepsTo, TakesAnswer, outcome_of};
 ghost use Rattle.clvm_eval.specs.declared.state.Step.TheVariants as step;
 
 use crate::quick::quick;
@@ -116,9 +116,9 @@ impl State {
         requires ready { frame.programs ≡ 0 }
         requires other { is_code apply_code (tree_at trees.old frame.code.0) ≡ false }
         ensures grows { Grows trees.old trees.new }
-        ensures ok { IfOk result (Yields trees.old trees.new self.old self.new (outcome_of trees.old self.old (step.Open frame))) }
-        ensures few_after_fault { OnErr result (length trees.new ≤ length trees.old + length trees.old + self.old.left.pairs + self.old.left.bytes) }
-        ensures fault { IfErr result (IsRunFault trees.new (outcome_of trees.old self.old (step.Open frame))) }
+        ensures ok { IfOk result (YieldsOf frame trees.old trees.new self.old self.new) }
+        ensures few_after_fault { OnErr result (FewNodes trees.old trees.new self.old) }
+        ensures fault { IfErr result (IsFaultOf frame trees.old trees.new self.old) }
     {
         let start = self.operands.len() - frame.count as usize;
         match table_answer(
@@ -150,9 +150,9 @@ impl State {
         requires ready { frame.programs ≡ 0 }
         requires other { is_code apply_code (tree_at trees.old frame.code.0) ≡ false }
         ensures grows { Grows trees.old trees.new }
-        ensures ok { IfOk result (Yields trees.old trees.new self.old self.new (outcome_of trees.old self.old (step.Open frame))) }
-        ensures few_after_fault { OnErr result (length trees.new ≤ length trees.old + length trees.old + self.old.left.pairs + self.old.left.bytes) }
-        ensures fault { IfErr result (IsRunFault trees.new (outcome_of trees.old self.old (step.Open frame))) }
+        ensures ok { IfOk result (YieldsOf frame trees.old trees.new self.old self.new) }
+        ensures few_after_fault { OnErr result (FewNodes trees.old trees.new self.old) }
+        ensures fault { IfErr result (IsFaultOf frame trees.old trees.new self.old) }
     {
         let start = self.operands.len() - frame.count as usize;
         match quick(alloc, trees, frame.code, &self.operands[start..], self.left) {
@@ -177,8 +177,8 @@ impl State {
         requires other { is_code apply_code (tree_at trees.old frame.code.0) ≡ false }
         ensures grows { Grows trees.old trees.new }
         ensures ok { IfOk result (Advances trees.old trees.new self.old self.new (outcome_of trees.old self.old (step.Open frame))) }
-        ensures few_after_fault { OnErr result (length trees.new ≤ length trees.old + length trees.old + self.old.left.pairs + self.old.left.bytes) }
-        ensures fault { IfErr result (IsRunFault trees.new (outcome_of trees.old self.old (step.Open frame))) }
+        ensures few_after_fault { OnErr result (FewNodes trees.old trees.new self.old) }
+        ensures fault { IfErr result (IsFaultOf frame trees.old trees.new self.old) }
     {
         let value = self.operator_value(alloc, trees, ops, frame)?;
         Ok(self.give(trees, value))
