@@ -1,17 +1,17 @@
 -- Where histories lead.
-use Rattle.std.proofs.Common.{◌≡◌, ℕ, suc, ◌+◌, ◌==◌, ◌⊎◌, inl, inr, Bool, true, false, cond, if◌then◌else◌, Option, Some, None, Result, Ok, Err, List, [], ◌∷◌, ◌++◌, length, map, zero, refl, ap, sym, ◌∙◌, subst, append_assoc, arith}
-use Rattle.std.specs.Prelude.{count_by, filter, fold, slice_get, nat_lt, nat_le}
+use Rattle.std.proofs.Common.{◌≡◌, ℕ, suc, ◌+◌, ◌==◌, inl, inr, Bool, true, false, cond, if◌then◌else◌, Option, Some, None, List, [], ◌∷◌, ◌++◌, length, map, zero, refl, ap, sym, ◌∙◌, subst, append_assoc, arith}
+use Rattle.std.specs.Prelude.{filter, fold, slice_get, nat_lt, nat_le}
 use Rattle.std.specs.List.{range_with_len}
 use Rattle.std.proofs.lemmas.Bool.{eqb-true}
 use Rattle.std.proofs.lemmas.List.{append-nil}
-use Rattle.std.proofs.lemmas.List.Sums.{sum_by-append, sum_by-cons}
+use Rattle.std.proofs.lemmas.List.Sums.{sum_by_push, sum_by-cons}
 use Rattle.chain_spec.specs.declared.chain.Record.{Record}
 use Rattle.chain_spec.specs.Chain.{look_up, ledger_of}
 use Rattle.judge_spec.specs.Judgement.{terms_of}
 use Rattle.judge_spec.specs.BlockJudgement.{BlockVerdict, Accepts, Breaks, block_judgement}
-use Rattle.pool_spec.specs.Prices.{Refusal, refusal}
+use Rattle.pool_spec.specs.Prices.{refusal}
 use Rattle.judge_spec.specs.declared.rule.Rule.TheVariants.{NotNext, NotLater, TooFarBack}
-use Rattle.pool_spec.specs.Pool.{PoolState, AdmittedView, Admission, Admits, Refuses, admission}
+use Rattle.pool_spec.specs.Pool.{PoolState, Admission, Admits, Refuses, admission}
 use Rattle.pool_spec.specs.Assembly.{assembly}
 use Rattle.step_spec.specs.declared.command.Command.{Command}
 use Rattle.step_spec.specs.declared.command.Command.TheVariants as commands
@@ -19,7 +19,7 @@ use Rattle.step_spec.specs.declared.reply.Reply.{Reply}
 use Rattle.step_spec.specs.declared.reply.Reply.TheVariants as replies
 use Rattle.step_spec.specs.declared.entry.Entry.{Entry}
 use Rattle.step_spec.specs.Steps.{Stepped, step, after_admission, unless_misplaced, assembled, farmed, after_block, after_rollback, coin_reply, peak_in, greatest_height, refused, at_peak, rolled_back}
-use Rattle.step_spec.specs.Histories.{Opening, done, command_at, Answers, Leads, LeadsTo, AreDone, IsLegal, state_by, after_command, after_entry, state_after}
+use Rattle.step_spec.specs.Histories.{Opening, done, Answers, Leads, AreDone, state_by, after_command, after_entry}
 use Rattle.step_spec.specs.StepLaws.{LeadsOn, BeginningLeads, StepIsAnswered, StateIsOfHistory, LeadsToOne, numbers_of, LegalIsInOrder}
 
 -- ---- one list behind another
@@ -27,9 +27,12 @@ use Rattle.step_spec.specs.StepLaws.{LeadsOn, BeginningLeads, StepIsAnswered, St
 pub leads-on : LeadsOn
 leads-on opening earlier [] later state middle end to on =
     subst (λ start. Leads opening earlier start later end) (sym to) (subst (λ before. Leads opening before middle later end) (append-nil earlier) on)
-leads-on opening earlier (entry ∷ first) later state middle end to on =
-    (to.0, to.1, leads-on opening (earlier ++ entry ∷ []) first later to.0 middle end to.2
-    (subst (λ before. Leads opening before middle later end) (sym (append_assoc earlier (entry ∷ []) first)) on))
+leads-on opening earlier (entry ∷ first) later state middle end to on = (
+  to.0,
+  to.1,
+  leads-on opening (earlier ++ entry ∷ []) first later to.0 middle end to.2
+      (subst (λ before. Leads opening before middle later end) (sym (append_assoc earlier (entry ∷ []) first)) on),
+)
 
 pub beginning-leads : BeginningLeads
 beginning-leads opening earlier [] later state end to =
@@ -131,7 +134,7 @@ number-of : (lane : ℕ) (earlier entries : List Entry) (entry : Entry) (here : 
     → numbers_of (entry ∷ entries) lane ≡ range_with_len (done earlier lane) (done (entry ∷ entries) lane)
 number-of lane earlier entries entry true is number more =
     let grown : done (earlier ++ entry ∷ []) lane ≡ done earlier lane + 1 =
-    sum_by-append (λ one. cond (one.lane == lane) 1 0) earlier (entry ∷ []) ∙ ap (λ b. done earlier lane + cond b 1 0) is in
+    sum_by_push (λ one. cond (one.lane == lane) 1 0) earlier entry ∙ ap (λ b. done earlier lane + cond b 1 0) is in
     let count : done (entry ∷ entries) lane ≡ suc (done entries lane) =
     sum_by-cons (λ one. cond (one.lane == lane) 1 0) entry entries ∙ ap (λ b. cond b 1 0 + done entries lane) is ∙ omega arith in
     ap (λ b. map (λ one. one.number) (cond b (entry ∷ filter (λ one. one.lane == lane) entries) (filter (λ one. one.lane == lane) entries))) is
@@ -139,7 +142,7 @@ number-of lane earlier entries entry true is number more =
     ∙ ap (range_with_len (done earlier lane)) (sym count)
 number-of lane earlier entries entry false is number more =
     let grown : done (earlier ++ entry ∷ []) lane ≡ done earlier lane =
-    sum_by-append (λ one. cond (one.lane == lane) 1 0) earlier (entry ∷ []) ∙ ap (λ b. done earlier lane + cond b 1 0) is ∙ omega arith in
+    sum_by_push (λ one. cond (one.lane == lane) 1 0) earlier entry ∙ ap (λ b. done earlier lane + cond b 1 0) is ∙ omega arith in
     let count : done (entry ∷ entries) lane ≡ done entries lane =
     sum_by-cons (λ one. cond (one.lane == lane) 1 0) entry entries ∙ ap (λ b. cond b 1 0 + done entries lane) is ∙ omega arith in
     ap (λ b. map (λ one. one.number) (cond b (entry ∷ filter (λ one. one.lane == lane) entries) (filter (λ one. one.lane == lane) entries))) is
@@ -163,7 +166,10 @@ done-at entries from zero (first ∷ lanes) commands are found = ap (done entrie
 done-at entries from (suc lane) (first ∷ lanes) commands are found =
     ap (done entries) (omega arith) ∙ done-at entries (suc from) lane lanes commands are.1 found
 
+from-zero : (entries : List Entry) (lane : ℕ) → done entries lane ≡ done entries (0 + lane)
+from-zero entries lane = ap (done entries) (omega arith)
+
 pub legal-is-in-order : LegalIsInOrder
 legal-is-in-order opening entries legal lane commands found =
     numbers-from opening lane [] entries opening.state legal.0.0 legal.0.1
-    ∙ ap (range_with_len 0) (done-at entries 0 lane opening.lanes commands legal.1 found)
+    ∙ ap (range_with_len 0) (from-zero entries lane ∙ done-at entries 0 lane opening.lanes commands legal.1 found)

@@ -1,45 +1,29 @@
 -- Steps of a session and a history of two lanes, computed.
-use Rattle.std.proofs.Common.{◌≡◌, ℕ, Some, None, Result, Ok, Err, List, [], ◌∷◌, ◌++◌, map, length, inl, inr, refl}
+use Rattle.std.proofs.Common.{◌≡◌, ℕ, None, List, [], ◌∷◌, length, inl, inr, refl}
 use Rattle.sha2.specs.Sha256.{sha256, digest_bytes, hash_after, compress, rounds, schedule, first_words}
-use Rattle.clvm_spec.specs.Tree.{Tree, Atom, Pair, nil, list_tree}
-use Rattle.clvm_spec.specs.Spelling.{spelling}
-use Rattle.clvm_spec.specs.Hashing.{tree_hash}
-use Rattle.clvm_spec.specs.Currying.{curried}
 use Rattle.clvm_spec.specs.Reading.{head_at, tree_at_front}
 use Rattle.clvm_spec.specs.Numbers.{without_sign_bytes, shortest_atom}
 use Rattle.clvm_spec.specs.Path.{followed}
 use Rattle.clvm_spec.specs.OperatorTable.{applied, operator_of}
 use Rattle.clvm_spec.specs.Evaluation.{evaluation}
-use Rattle.coin_facts.specs.declared.hash32.Hash32.{Hash32}
 use Rattle.coin_facts.specs.declared.coin.Coin.{Coin}
 use Rattle.coin_facts.specs.CoinId.{coin_id}
-use Rattle.coin_facts.specs.Atoms.{number_atom}
-use Rattle.block_spec.specs.declared.spend.Spend.{Spend}
 use Rattle.block_spec.specs.declared.bundle.Bundle.{Bundle}
 use Rattle.block_spec.specs.BundleTree.{bundle_id}
-use Rattle.chain_spec.specs.declared.chain.Record.{Record}
-use Rattle.chain_spec.specs.Chain.{Ledger, Chain, Connected}
 use Rattle.cond_spec.specs.Conditions.{conditions_of}
-use Rattle.cond_spec.proofs.ConditionRows.{bytes32, hash, condition}
-use Rattle.judge_spec.specs.declared.class.Class.{Class}
-use Rattle.judge_spec.specs.declared.class.Class.TheVariants.{Plain, Same, Forward}
-use Rattle.judge_spec.specs.declared.limits.Limits.{Limits}
-use Rattle.judge_spec.specs.Facts.{Facts, facts_of}
+use Rattle.cond_spec.proofs.ConditionRows.{hash}
+use Rattle.judge_spec.specs.Facts.{facts_of}
 use Rattle.judge_spec.specs.Judgement.{judgement}
-use Rattle.judge_spec.proofs.RowParts.{asks, spend_by, ledger, ephemeral, signs, malformed, fails}
-use Rattle.pool_spec.specs.declared.lineage.Lineage.{Lineage}
-use Rattle.pool_spec.specs.Shape.{Shape, shape_of}
-use Rattle.pool_spec.specs.Classes.{class_of, classes_of}
-use Rattle.pool_spec.specs.Fit.{Taken, nothing_taken, lineage_of, fit_of}
-use Rattle.pool_spec.specs.Prices.{Refusal, Priced, priced}
-use Rattle.pool_spec.specs.Replacement.{conflicts, unreplaced}
-use Rattle.pool_spec.specs.Pool.{PoolState, Admission, Admits, Refuses, admission, after_peak_change}
-use Rattle.pool_spec.specs.Assembly.{by_rate, unlike, filled, assembly}
+use Rattle.pool_spec.specs.Shape.{shape_of}
+use Rattle.pool_spec.specs.Classes.{class_of}
+use Rattle.pool_spec.specs.Fit.{fit_of}
+use Rattle.pool_spec.specs.Prices.{priced}
+use Rattle.pool_spec.specs.Pool.{PoolState, admission}
+use Rattle.pool_spec.specs.Assembly.{filled, assembly}
 use Rattle.block_spec.specs.declared.block.Block.{Block}
 use Rattle.block_spec.specs.BlockTree.{block_bytes, block_hash}
 use Rattle.block_spec.specs.BlockReading.{block_of}
-use Rattle.pool_spec.proofs.RowParts.{limits, bundle, one, one_hash, paid, start_state, plain_coin, pays_from}
-use Rattle.step_spec.specs.declared.command.Command.{Command}
+use Rattle.pool_spec.proofs.RowParts.{limits, bundle, start_state, plain_coin, pays_from}
 use Rattle.step_spec.specs.declared.command.Command.TheVariants as commands
 use Rattle.step_spec.specs.declared.reply.Reply.{Reply}
 use Rattle.step_spec.specs.declared.reply.Reply.TheVariants as replies
@@ -151,11 +135,21 @@ history = entry 1 0 replies.NoCoin ∷ entry 0 0 (replies.Peak 0 (hash 0x11) 0) 
 
 a_legal_history : IsLegal opening history
 unfolding step assembly filled admission priced fit_of class_of shape_of judgement facts_of bundle_id block_of conditions_of evaluation followed applied operator_of head_at tree_at_front without_sign_bytes shortest_atom sha256 digest_bytes hash_after compress rounds schedule first_words
-a_legal_history =
-    ((pool [],
-    (pool [], record { command = commands.Coin 1 (hash 0); number = refl; this = refl; answers = inl (refl, refl) },
-    (pool [], record { command = commands.Peak 0; number = refl; this = refl; answers = inl (refl, refl) },
-    (pool [], record { command = commands.List 0; number = refl; this = refl; answers = inr (tt, refl, refl) }, refl)))), (refl, refl, tt))
+a_legal_history = (
+  (
+    pool [],
+    (
+      pool [],
+      record { command = commands.Coin 1 (hash 0); number = refl; this = refl; answers = inl (refl, refl) },
+      (
+        pool [],
+        record { command = commands.Peak 0; number = refl; this = refl; answers = inl (refl, refl) },
+        (pool [], record { command = commands.List 0; number = refl; this = refl; answers = inr (tt, refl, refl) }, refl),
+      ),
+    ),
+  ),
+  (refl, (refl, tt)),
+)
 
 its_state : state_after opening history ≡ pool []
 unfolding step assembly filled admission priced fit_of class_of shape_of judgement facts_of bundle_id block_of conditions_of evaluation followed applied operator_of head_at tree_at_front without_sign_bytes shortest_atom sha256 digest_bytes hash_after compress rounds schedule first_words
