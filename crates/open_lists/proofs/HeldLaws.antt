@@ -1,10 +1,10 @@
 -- The forms that open lists hold, with one more list within the others.
-use Rattle.std.proofs.Common.{◌≡◌, true, List, [], ◌∷◌, ◌++◌, None, refl, sym, ◌∙◌, ap, append_assoc, append-nil}
+use Rattle.std.proofs.Common.{◌≡◌, true, List, [], ◌∷◌, ◌++◌, refl, sym, ◌∙◌, ap, append_assoc, append-nil}
 use Rattle.open_lists.specs.declared.list.Reach.{Reach}
 use Rattle.open_lists.specs.declared.list.Reach.TheVariants.{Elements, Dot, Last}
 use Rattle.open_lists.specs.declared.list.OpenList.{OpenList}
 use Rattle.open_lists.specs.Reaches.{takes_form, takes_dot, forms_with, reach_with}
-use Rattle.open_lists.specs.Held.{last_held, forms_held, held, handed}
+use Rattle.open_lists.specs.Held.{last_held, forms_held, held}
 
 module _ {F P : Type 0} where
   held_push : (outer : List (OpenList F P)) (list : OpenList F P) → held (outer ++ list ∷ []) ≡ held outer ++ forms_held list
