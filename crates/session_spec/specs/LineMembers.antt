@@ -11,9 +11,8 @@ use Rattle.lisp_spec.specs.Modules.{Module}
 use Rattle.session_spec.specs.declared.member.Member.{Member}
 use Rattle.session_spec.specs.MemberNames.{name_of}
 use Rattle.session_spec.specs.LineFaults.{What, Missing, Bad, UnknownName}
-use Rattle.session_spec.specs.Bundles.{values}
 use Rattle.session_spec.specs.Results.{◌>>=◌, each_of}
-use Rattle.session_spec.specs.Values.{is_name, text_of_hash, text_of_code}
+use Rattle.session_spec.specs.Values.{values, is_name, text_of_hash, text_of_code}
 
 -- ---- the value of a member
 
