@@ -5,6 +5,7 @@ pub mod Prices
 pub mod Replacement
 pub mod Pool
 pub mod Assembly
+pub mod PoolLaws
 pub mod FirstConditions
 pub mod FirstRuns
 pub mod FirstJudgement

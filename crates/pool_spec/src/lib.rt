@@ -2,6 +2,7 @@
 //! the block that a pool assembles.
 #![tactic(auto)]
 
+pub mod laws;
 pub mod limits;
 mod lineage;
 

@@ -1,5 +1,5 @@
 -- The histories of a session: in which order the commands of its lanes were answered, and how. Source: this project's own.
-use Rattle.std.specs.Prelude.{◌≡◌, ℕ, suc, ◌==◌, ◌⊎◌, List, [], ◌∷◌, ◌++◌, length, count_by, slice_get, Option, Some, option_and_then}
+use Rattle.std.specs.Prelude.{◌≡◌, ℕ, suc, ◌==◌, ◌⊎◌, List, [], ◌∷◌, ◌++◌, length, count_by, fold, slice_get, Option, Some, None, option_and_then}
 use Rattle.coin_facts.specs.declared.coin.Coin.{Coin}
 use Rattle.chain_spec.specs.Chain.{Chain}
 use Rattle.pool_spec.specs.Pool.{PoolState}
@@ -9,7 +9,7 @@ use Rattle.step_spec.specs.declared.reply.Reply.{Reply}
 use Rattle.step_spec.specs.declared.reply.Reply.TheVariants.{Memory}
 use Rattle.step_spec.specs.declared.entry.Entry.{Entry}
 use Rattle.step_spec.specs.Commands.{lanes_of, MayLackMemory}
-use Rattle.step_spec.specs.Steps.{step}
+use Rattle.step_spec.specs.Steps.{Stepped, step}
 
 -- ---- where a history begins
 
@@ -49,17 +49,39 @@ Answers state command reply next =
     ((reply ≡ (step state command).reply) × (next ≡ (step state command).state))
     ⊎ (MayLackMemory command × (reply ≡ Memory) × (next ≡ state))
 
--- Behind earlier entries that led to a state, further ones lead to another: each answers the next command of its lane.
+-- Behind earlier entries an entry answers the next command of its lane, and the state goes on to another.
+pub record GoesOn (opening : Opening) (earlier : List Entry) (state : PoolState) (entry : Entry) (next : PoolState) : Type 0 where
+  pub command : Command
+  pub number : entry.number ≡ done earlier entry.lane
+  pub this : command_at opening entry.lane entry.number ≡ Some command
+  pub answers : Answers state command entry.reply next
+
+-- Behind earlier entries, that led to a state, further ones lead on to another.
 abbrev pub Leads : Opening → (earlier : List Entry) → PoolState → List Entry → PoolState → Type 0
 Leads opening earlier state [] end = state ≡ end
 Leads opening earlier state (entry ∷ entries) end =
-    (entry.number ≡ done earlier entry.lane)
-    × ((command : Command) × (command_at opening entry.lane entry.number ≡ Some command)
-    × ((next : PoolState) × Answers state command entry.reply next × Leads opening (earlier ++ entry ∷ []) next entries end))
+    (next : PoolState) × GoesOn opening earlier state entry next × Leads opening (earlier ++ entry ∷ []) next entries end
 
 -- what leads from the opening's state on, with no entry before
 abbrev pub LeadsTo : Opening → List Entry → PoolState → Type 0
 LeadsTo opening entries end = Leads opening [] opening.state entries end
+
+-- ---- the state as a function of the history
+
+-- that of the command's step, or the same where memory was wanting
+abbrev pub state_by : Reply → Stepped → PoolState → PoolState
+state_by Memory found state = state
+state_by _ found state = found.state
+
+abbrev pub after_command : Reply → PoolState → Option Command → PoolState
+after_command reply state (Some command) = state_by reply (step state command) state
+after_command reply state None = state
+
+abbrev pub after_entry : Opening → PoolState → Entry → PoolState
+after_entry opening state entry = after_command entry.reply state (command_at opening entry.lane entry.number)
+
+abbrev pub state_after : Opening → List Entry → PoolState
+state_after opening entries = fold (after_entry opening) opening.state entries
 
 -- ---- legal histories
 

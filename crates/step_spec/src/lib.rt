@@ -4,6 +4,7 @@
 mod command;
 mod entry;
 mod header;
+pub mod laws;
 mod reply;
 
 pub use command::Command;
