@@ -1,5 +1,5 @@
 -- In a module without fault no name that is met is without meaning.
-use Rattle.std.proofs.Common.{◌≡◌, ℕ, zero, suc, Bool, true, false, cond, List, [], ◌∷◌, ◌++◌, map, find, Option, Some, None, option_map, bytes_eq, codes, refl, sym, ◌∙◌, ap, subst, inl, inr, true≢false}
+use Rattle.std.proofs.Common.{◌≡◌, ℕ, zero, suc, Bool, true, false, ◌||◌, cond, List, [], ◌∷◌, ◌++◌, map, find, Option, Some, None, option_map, bytes_eq, codes, refl, sym, ◌∙◌, ap, subst, inl, inr, true≢false}
 use Rattle.std.specs.List.{AllByRecursion}
 use Rattle.clvm_spec.specs.Tree.{Tree, Pair, list_tree}
 use Rattle.clvm_spec.specs.Operators.{is_nil}
@@ -16,7 +16,11 @@ use Rattle.lisp_spec.specs.Parameters.{Side, ToFirst, ToRest, Parameter, paramet
 use Rattle.lisp_spec.specs.Environments.{Environment, Empty, Bound, Astray, Stands, Binding, ToTree, ToNoStep, ToExpression, ToNothing, binding_of, bound_to, trees_bound, function_environment, step_name, part_of_operand, expression_at, standing, expressions_bound, inline_environment}
 use Rattle.lisp_spec.specs.Meaning.{Meaning, Value, Failed, Wide, Out, Means, if_value, operate, constant_meaning, name_meaning, function_call, inline_call, chosen, template_pair, call, by_head, expression_meaning, operand_values, choice_meaning, template_meaning, only_expression, only_template, meaning_within, meaning}
 use Rattle.lisp_spec.specs.ModuleFaults.{Unbound, BadForm, is_among, ◌or◌, expect}
-use Rattle.lisp_spec.specs.FormFaults.{Scope, operands_fault, head_fault, unquote_fault, is_one, are_three, form_fault}
+use Rattle.lisp_spec.specs.Expressions.{Scope}
+use Rattle.lisp_spec.specs.Scopes.{module_scope}
+use Rattle.lisp_spec.proofs.FormFaults.{operands_fault, head_fault, unquote_fault, is_one, are_three, form_fault}
+use Rattle.lisp_spec.proofs.Reading.{is_read}
+use Rattle.lisp_spec.proofs.ReadSound.{read_is_sound}
 use Rattle.lisp_spec.specs.ModuleLaws.{IsBound, with_more, NoNameIsWithoutMeaning}
 use Rattle.lisp_spec.proofs.CycleProofs.{cases, not_same, or_false, or_true}
 use Rattle.lisp_spec.proofs.ModuleProofs.{or_none, expect_none, names_are_bound}
@@ -111,7 +115,7 @@ elements_back place (operand ∷ operands) = ap (option_map (λ more. operand �
 
 module _ (m : Module) where
   abbrev scope_with : List (List ℕ) → Scope
-  scope_with names = record { symbols = names ++ constant_names m.constants; calls = definition_names m.functions ++ definition_names m.inlines; may_run = true }
+  scope_with names = record { symbols = names ++ constant_names m.constants; functions = definition_names m.functions; inlines = definition_names m.inlines; may_run = true }
 
   abbrev Sound : List (List ℕ) → Part → Form → Type 0
   Sound names part f = form_fault (scope_with names) part f ≡ None
@@ -213,8 +217,19 @@ if_value_same meant meant' go go' e h = ap (λ meant. if_value meant go') e ∙ 
     by Wide = refl
     by Out = refl
 
+-- A body that is an expression has no fault.
+abbrev HasNoFault : Module → Form → Form → Type 0
+HasNoFault m params body = form_fault (module_scope m params) Expression body ≡ None
+
+has_no_fault : (m : Module) (params body : Form) → IsBound m params body → HasNoFault m params body
+has_no_fault m params body (e, h) = read_is_sound (module_scope m params) body e (is_read (module_scope m params) body e h)
+
 abbrev AllBound : Module → List Definition → Type 0
-AllBound m definitions = AllByRecursion (λ d. IsBound m d.params d.body) definitions
+AllBound m definitions = AllByRecursion (λ d. HasNoFault m d.params d.body) definitions
+
+none_has_fault : (m : Module) (definitions : List Definition) → AllByRecursion (λ d. IsBound m d.params d.body) definitions → AllBound m definitions
+none_has_fault m [] h = tt
+none_has_fault m (d ∷ definitions) h = (has_no_fault m d.params d.body h.0, none_has_fault m definitions h.1)
 
 -- What is handed on means the same in environments that are well.
 abbrev MeansAlike : Module → Means → Means → Type 0
@@ -232,16 +247,16 @@ module _ (m : Module) (constants : List Constant) (functions : List Definition) 
   name_by name env w among ToNothing is =
       ap constant_meaning (found_first (λ c. c.name) name m.constants constants (among_behind name (names_in env) (constant_names m.constants) among (nothing_bound name env is)))
 
-  body_alike : (f : Definition) (values : List Tree) → IsBound m f.params f.body → further' f.body (function_environment f.params (list_tree values)) ≡ further f.body (function_environment f.params (list_tree values))
+  body_alike : (f : Definition) (values : List Tree) → HasNoFault m f.params f.body → further' f.body (function_environment f.params (list_tree values)) ≡ further f.body (function_environment f.params (list_tree values))
   body_alike f values h =
       alike f.body (function_environment f.params (list_tree values)) (trees_well m (parameters f.params) (list_tree values))
       (subst (λ names. Sound m names Expression f.body) (sym (bound_names (parameters f.params) (list_tree values))) h)
 
   function_alike : (name : List ℕ) (values : List Tree) → is_among name (definition_names m.functions) ≡ true → (f : Option Definition) → definition_named name m.functions ≡ f → function_call further' f values ≡ function_call further f values
   function_alike name values among None is = refl
-  function_alike name values among (Some f) is = body_alike f values (found_has (λ d. d.name) name (λ d. IsBound m d.params d.body) m.functions f are is)
+  function_alike name values among (Some f) is = body_alike f values (found_has (λ d. d.name) name (λ d. HasNoFault m d.params d.body) m.functions f are is)
 
-  inline_alike : (inline : Definition) (place : Place) (env : Environment) → IsWell m env → IsBound m inline.params inline.body → (operands : Form) → Sound m (names_in env) Operands operands →
+  inline_alike : (inline : Definition) (place : Place) (env : Environment) → IsWell m env → HasNoFault m inline.params inline.body → (operands : Form) → Sound m (names_in env) Operands operands →
       (list : Option (List Form)) → form_elements operands ≡ list → inline_call further' inline place env list ≡ inline_call further inline place env list
   inline_alike inline place env w h operands sound None is = refl
   inline_alike inline place env w h operands sound (Some list) is =
@@ -262,14 +277,14 @@ module _ (m : Module) (constants : List Constant) (functions : List Definition) 
   OneValueAlike env f = Sound m (names_in env) Operands f → only_expression more n further' f env ≡ only_expression m n further f env
 
   call_alike : (at : Place) (name : List ℕ) (behind : Form) (env : Environment) → IsWell m env → ValuesAlike env behind → Sound m (names_in env) Operands behind →
-      is_among name (definition_names m.functions ++ definition_names m.inlines) ≡ true → (inline : Option Definition) → definition_named name m.inlines ≡ inline →
+      (is_among name (definition_names m.inlines) || is_among name (definition_names m.functions)) ≡ true → (inline : Option Definition) → definition_named name m.inlines ≡ inline →
       call more n further' at name behind (operand_values more n further' behind) env inline ≡ call m n further at name behind (operand_values m n further behind) env inline
   call_alike at name behind env w values sound among None is =
-      let here = among_first name (definition_names m.functions) (definition_names m.inlines) among (not_found (λ d. d.name) name m.inlines is) in
+      let here = or_true (is_among name (definition_names m.inlines)) (is_among name (definition_names m.functions)) among (not_found (λ d. d.name) name m.inlines is) in
       values sound (function_call further (definition_named name m.functions)) (function_call further' (definition_named name more.functions))
       (λ list. ap (λ f. function_call further' f list) (found_first (λ d. d.name) name m.functions functions here) ∙ function_alike name list here (definition_named name m.functions) refl)
   call_alike at name behind env w values sound among (Some inline) is =
-      inline_alike inline at env w (found_has (λ d. d.name) name (λ d. IsBound m d.params d.body) m.inlines inline inlines_are is) behind sound (form_elements behind) refl
+      inline_alike inline at env w (found_has (λ d. d.name) name (λ d. HasNoFault m d.params d.body) m.inlines inline inlines_are is) behind sound (form_elements behind) refl
 
   operands_alike : (at symbol : Place) (name : List ℕ) (behind : Form) (env : Environment) → IsWell m env → ValuesAlike env behind → ChoiceAlike env behind → OneTemplateAlike env behind →
       (head : Head) (list : Option (List Form)) → operands_fault (scope_with m (names_in env)) at symbol name head (λ part. form_fault (scope_with m (names_in env)) part behind) list ≡ None →
@@ -284,8 +299,8 @@ module _ (m : Module) (constants : List Constant) (functions : List Definition) 
   operands_alike at symbol name behind env w values choice template Lists (Some list) e = values e (λ values. Value (list_tree values)) (λ values. Value (list_tree values)) (λ values. refl)
   operands_alike at symbol name behind env w values choice template (Operates code) (Some list) e = values e (operate n code) (operate n code) (λ values. refl)
   operands_alike at symbol name behind env w values choice template Calls (Some list) e =
-      let h = or_none (expect (is_among name (definition_names m.functions ++ definition_names m.inlines)) Unbound symbol) _ e in
-      call_alike at name behind env w values h.1 (expect_none (is_among name (definition_names m.functions ++ definition_names m.inlines)) Unbound symbol h.0) (definition_named name m.inlines) refl
+      let h = or_none (expect (is_among name (definition_names m.inlines) || is_among name (definition_names m.functions)) Unbound symbol) _ e in
+      call_alike at name behind env w values h.1 (expect_none (is_among name (definition_names m.inlines) || is_among name (definition_names m.functions)) Unbound symbol h.0) (definition_named name m.inlines) refl
 
   head_alike : (at symbol : Place) (name : List ℕ) (behind : Form) (env : Environment) → IsWell m env → ValuesAlike env behind → ChoiceAlike env behind → OneTemplateAlike env behind →
       (head : Head) → head_fault (scope_with m (names_in env)) at symbol name head (λ part. form_fault (scope_with m (names_in env)) part behind) behind ≡ None →
@@ -375,5 +390,5 @@ pub no_name_is_without_meaning : NoNameIsWithoutMeaning
 unfolding meaning
 no_name_is_without_meaning texts text m stands constants functions argument n =
     let h = names_are_bound texts text m stands in
-    within_alike m constants functions h.0 h.1 n m.body (function_environment m.params argument) (trees_well m (parameters m.params) argument)
-    (subst (λ names. Sound m names Expression m.body) (sym (bound_names (parameters m.params) argument)) h.2)
+    within_alike m constants functions (none_has_fault m m.functions h.0) (none_has_fault m m.inlines h.1) n m.body (function_environment m.params argument) (trees_well m (parameters m.params) argument)
+    (subst (λ names. Sound m names Expression m.body) (sym (bound_names (parameters m.params) argument)) (has_no_fault m m.params m.body h.2))

@@ -6,6 +6,9 @@ pub mod Settled
 pub mod MacroCases
 mod ExpansionRows
 mod TurnRows
+pub mod Reading
+pub mod FormFaults
+pub mod ReadSound
 pub mod Sources
 mod MeaningRows
 pub mod ModuleCases

@@ -16,7 +16,8 @@ pub mod BuiltIns
 pub mod ModuleFaults
 pub mod Definitions
 pub mod Inclusion
-pub mod FormFaults
+pub mod Expressions
+pub mod Scopes
 pub mod Constants
 pub mod Cycles
 pub mod ExpressionWeights

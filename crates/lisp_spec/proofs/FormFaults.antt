@@ -8,16 +8,8 @@ use Rattle.lisp_spec.specs.FormParts.{Part, Expression, Operands, Template, OneT
 use Rattle.lisp_spec.specs.declared.head.Head.{Head}
 use Rattle.lisp_spec.specs.declared.head.Head.TheVariants.{QuotesRest, QuotesOne, Templates, Unquotes, Chooses, Lists, Operates, Calls}
 use Rattle.lisp_spec.specs.Heads.{head_of}
+use Rattle.lisp_spec.specs.Expressions.{Scope}
 use Rattle.lisp_spec.specs.ModuleFaults.{Unbound, BadForm, Fault, fault, ◌or◌, expect, is_among}
-
--- what may be named in an expression
-pub record Scope : Type 0 where
-  -- parameters and constants
-  pub symbols : List (List ℕ)
-  -- functions and inlines
-  pub calls : List (List ℕ)
-  -- whether `a` may be a head
-  pub may_run : Bool
 
 abbrev pub is_one : List Form → Bool
 is_one forms = is_some (the_only forms)
@@ -40,7 +32,7 @@ operands_fault scope pair place name Unquotes rest (Some operands) = Some (fault
 operands_fault scope pair place name Chooses rest (Some operands) = expect (are_three operands) BadForm pair or rest Operands
 operands_fault scope pair place name Lists rest (Some operands) = rest Operands
 operands_fault scope pair place name (Operates code) rest (Some operands) = expect (scope.may_run || not (code == 2)) Unbound place or rest Operands
-operands_fault scope pair place name Calls rest (Some operands) = expect (is_among name scope.calls) Unbound place or rest Operands
+operands_fault scope pair place name Calls rest (Some operands) = expect (is_among name scope.inlines || is_among name scope.functions) Unbound place or rest Operands
 
 -- `q` is followed by any form.
 abbrev pub head_fault : Scope → (pair place : Place) → List ℕ → Head → PartFault → Form → Option Fault
