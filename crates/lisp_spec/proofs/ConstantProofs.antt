@@ -6,16 +6,11 @@ use Rattle.clvm_spec.specs.Outcomes.{Applied, Gives, Fails, TooWide}
 use Rattle.clvm_spec.specs.Operators.{is_nil}
 use Rattle.clvm_spec.specs.OperatorTable.{applied}
 use Rattle.lisp_spec.specs.Forms.{Form, Place}
-use Rattle.lisp_spec.specs.Forms as form
-use Rattle.lisp_spec.specs.declared.head.Head.{Head}
-use Rattle.lisp_spec.specs.declared.head.Head.TheVariants.{QuotesRest, QuotesOne, Templates, Chooses, Lists, Operates}
-use Rattle.lisp_spec.specs.Heads.{head_of}
 use Rattle.lisp_spec.specs.Quoted.{quoted_form}
 use Rattle.lisp_spec.specs.Modules.{Module, Constant, constant_named}
 use Rattle.lisp_spec.specs.Weights.{tree_weight, weight_limit}
 use Rattle.lisp_spec.specs.Environments.{Empty}
-use Rattle.lisp_spec.specs.Meaning.{Meaning, Value, Failed, Wide, Out, Means, if_value, operator_meaning, operate, run_values, constant_meaning, chosen, template_pair, by_head, expression_meaning, choice_meaning, template_meaning, only_expression, only_template, meaning_within, meaning}
-use Rattle.lisp_spec.specs.Meaning as meanings
+use Rattle.lisp_spec.specs.Meaning.{Meaning, Value, Failed, Wide, Out, Means, if_value, operator_meaning, operate, run_values, constant_meaning, expression_meaning, operands_meaning, template_meaning, meaning_within, meaning}
 use Rattle.lisp_spec.specs.ModuleFaults.{ConstantFails, TooLarge, fault, Judged, ◌>>=◌}
 use Rattle.lisp_spec.specs.Expressions.{Expression, Operands, Template}
 use Rattle.lisp_spec.specs.Scopes.{constant_scope, IsExpression}
@@ -94,73 +89,65 @@ operate_is n code values false e = refl
 
 -- ---- expressions of constants
 
+one_of : (test : Bool) (a b : Judged Tree) (f g : Meaning) → Fits a f → Fits b g → Fits (cond test b a) (cond test g f)
+one_of true a b f g e h = h
+one_of false a b f g e h = e
+
 module _ (m : Module) (names : List (List ℕ)) (place : Place) (n : ℕ) (further : Means) where
-  abbrev means : Form → Meaning
-  means f = expression_meaning m n further f Empty
+  abbrev means : Expression → Meaning
+  means e = expression_meaning m n further e Empty
+
+  abbrev all_of : Operands → All
+  all_of operands = operands_meaning m n further operands Empty
+
+  abbrev filled_with : Template → Meaning
+  filled_with t = template_meaning m n further t Empty
 
   abbrev valued : Expression → Judged Tree
   valued e = expression_value place m.constants e
 
-  -- What is behind a head is looked at by that head.
-  at_head : (at symbol : Place) (name : List ℕ) (behind : Form) (judged : Judged Tree) (head : Head) → head_of name ≡ head →
-      Fits judged (by_head m n further at name behind (meanings.operand_values m n further behind) (choice_meaning m n further behind) (only_template m n further behind) Empty head) →
-      Fits judged (means (form.Pair at (form.Symbol symbol name) behind))
-  at_head at symbol name behind judged head is fits =
-      subst (λ head. Fits judged (by_head m n further at name behind (meanings.operand_values m n further behind) (choice_meaning m n further behind) (only_template m n further behind) Empty head)) (sym is) fits
-
-  one_of : (test : Bool) (a b : Judged Tree) (f g : Meaning) → Fits a f → Fits b g → Fits (cond test b a) (cond test g f)
-  one_of true a b f g e h = h
-  one_of false a b f g e h = e
-
+  -- No `a` may stand in a constant, and no call.
   mutual
     unfolding Fits FitsAll
 
-    value_fits : (f : Form) (e : Expression) → IsRead (constant_scope names) f e → Fits (valued e) (means f)
+    value_fits : (f : Form) (e : Expression) → IsRead (constant_scope names) f e → Fits (valued e) (means e)
     value_fits f e (read_atom at bytes) = value_is place (tree.Atom bytes)
     value_fits f e (read_symbol at name among) = named_fits place (constant_named name m.constants)
-    value_fits f e (quotes_rest at symbol name behind is) = at_head at symbol name behind _ QuotesRest is (value_is place (quoted_form behind))
-    value_fits f e (quotes_one at symbol next end name g is) = at_head at symbol name (form.Pair next g (form.Atom end [])) _ QuotesOne is (value_is place (quoted_form g))
-    value_fits f e (templates at symbol next end name g t is h) =
-        at_head at symbol name (form.Pair next g (form.Atom end [])) _ Templates is (met_fits place (template_value place m.constants t) (template_meaning m n further g Empty) (template_fits g t h))
-    value_fits f e (chooses at symbol first second third end name g h k a b c is p q r) =
-        at_head at symbol name (form.Pair first g (form.Pair second h (form.Pair third k (form.Atom end [])))) _ Chooses is
-        (fits_then (valued a) (means g) (λ test. cond (is_nil test) (valued c) (valued b)) (λ test. chosen test (expression_meaning m n further h) (expression_meaning m n further k) Empty) (value_fits g a p)
-        (λ test. one_of (is_nil test) (valued b) (valued c) (means h) (means k) (value_fits h b q) (value_fits k c r)))
-    value_fits f e (lists at symbol name behind found is h) =
-        at_head at symbol name behind _ Lists is
-        (all_then (operand_values place m.constants found) (meanings.operand_values m n further behind Empty) (λ values. met place (list_tree values)) (λ values. Value (list_tree values)) (values_fit behind found h)
-        (λ values. value_is place (list_tree values)))
-    value_fits f e (operates at symbol name code behind found is may h) =
-        at_head at symbol name behind _ (Operates code) is
-        (all_then (operand_values place m.constants found) (meanings.operand_values m n further behind Empty) (λ values. result_value place (applied (code ∷ []) values)) (operate n code) (values_fit behind found h)
-        (λ values. subst (Fits (result_value place (applied (code ∷ []) values))) (operate_is n code values (code == 2) may) (result_fits place (applied (code ∷ []) values))))
-    value_fits f e (calls_inline at symbol name behind found is among h) = absurd cc
-    value_fits f e (calls_function at symbol name behind found is isnt among h) = absurd cc
+    value_fits f e (quotes_rest at where_it name behind is) = value_is place (quoted_form behind)
+    value_fits f e (quotes_one at where_it next end name g is) = value_is place (quoted_form g)
+    value_fits f e (templates at where_it next end name g t is h) = met_fits place (template_value place m.constants t) (filled_with t) (template_fits g t h)
+    value_fits f e (chooses at where_it first second third end name g h k a b c is p q r) =
+        fits_then (valued a) (means a) (λ test. cond (is_nil test) (valued c) (valued b)) (λ test. cond (is_nil test) (means c) (means b)) (value_fits g a p)
+        (λ test. one_of (is_nil test) (valued b) (valued c) (means b) (means c) (value_fits h b q) (value_fits k c r))
+    value_fits f e (lists at where_it name behind found is h) =
+        all_then (operand_values place m.constants found) (all_of found) (λ values. met place (list_tree values)) (λ values. Value (list_tree values)) (values_fit behind found h)
+        (λ values. value_is place (list_tree values))
+    value_fits f e (operates at where_it name code behind found is may h) =
+        all_then (operand_values place m.constants found) (all_of found) (λ values. result_value place (applied (code ∷ []) values)) (operate n code) (values_fit behind found h)
+        (λ values. subst (Fits (result_value place (applied (code ∷ []) values))) (operate_is n code values (code == 2) may) (result_fits place (applied (code ∷ []) values)))
+    value_fits f e (calls_inline at where_it name behind found is among h) = absurd cc
+    value_fits f e (calls_function at where_it name behind found is isnt among h) = absurd cc
 
-    values_fit : (f : Form) (found : Operands) → AreOperands (constant_scope names) f found → FitsAll (operand_values place m.constants found) (meanings.operand_values m n further f Empty)
+    values_fit : (f : Form) (found : Operands) → AreOperands (constant_scope names) f found → FitsAll (operand_values place m.constants found) (all_of found)
     values_fit f found (read_none at) = λ go. refl
-    values_fit f found (read_more at g rest e more p q) =
-        more_fits (valued e) (operand_values place m.constants more) (means g) (meanings.operand_values m n further rest Empty) (value_fits g e p) (values_fit rest more q)
+    values_fit f found (read_more at g rest e more p q) = more_fits (valued e) (operand_values place m.constants more) (means e) (all_of more) (value_fits g e p) (values_fit rest more q)
 
-    template_fits : (f : Form) (t : Template) → IsTemplate (constant_scope names) f t → Fits (template_value place m.constants t) (template_meaning m n further f Empty)
+    template_fits : (f : Form) (t : Template) → IsTemplate (constant_scope names) f t → Fits (template_value place m.constants t) (filled_with t)
     template_fits f t (plain_atom at bytes) = refl
     template_fits f t (plain_symbol at name) = refl
-    template_fits f t (unquotes at next end head g e is h) =
-        let behind = form.Pair next g (form.Atom end []) in
-        subst (λ replaced. Fits (valued e) (template_pair replaced (only_expression m n further behind) (template_meaning m n further head) (template_meaning m n further behind) Empty)) (sym is) (value_fits g e h)
+    template_fits f t (unquotes at next end head g e is h) = value_fits g e h
     template_fits f t (parts at first rest a b is p q) =
-        subst (λ replaced. Fits (template_value place m.constants t) (template_pair replaced (only_expression m n further rest) (template_meaning m n further first) (template_meaning m n further rest) Empty)) (sym is)
-        (fits_then (template_value place m.constants b) (template_meaning m n further rest Empty) (λ later. template_value place m.constants a >>= λ earlier. Ok (Pair earlier later))
-        (λ later. if_value (template_meaning m n further first Empty) (λ earlier. Value (Pair earlier later))) (template_fits rest b q)
-        (λ later. fits_then (template_value place m.constants a) (template_meaning m n further first Empty) (λ earlier. Ok (Pair earlier later)) (λ earlier. Value (Pair earlier later)) (template_fits first a p) (λ earlier. refl)))
+        fits_then (template_value place m.constants b) (filled_with b) (λ later. template_value place m.constants a >>= λ earlier. Ok (Pair earlier later))
+        (λ later. if_value (filled_with a) (λ earlier. Value (Pair earlier later))) (template_fits rest b q)
+        (λ later. fits_then (template_value place m.constants a) (filled_with a) (λ earlier. Ok (Pair earlier later)) (λ earlier. Value (Pair earlier later)) (template_fits first a p) (λ earlier. refl))
 
-within_means : (m : Module) (names : List (List ℕ)) (place : Place) (n : ℕ) (f : Form) (e : Expression) → IsExpression (constant_scope names) f e → Fits (expression_value place m.constants e) (meaning_within m n f Empty)
+within_means : (m : Module) (names : List (List ℕ)) (place : Place) (n : ℕ) (f : Form) (e : Expression) → IsExpression (constant_scope names) f e → Fits (expression_value place m.constants e) (meaning_within m n e Empty)
 within_means m names place zero f e h = value_fits m names place zero (λ e env. Out) f e (is_read (constant_scope names) f e h)
 within_means m names place (suc n) f e h = value_fits m names place (suc n) (meaning_within m n) f e (is_read (constant_scope names) f e h)
 
 pub constants_mean_their_values : ConstantsMeanTheirValues
 unfolding Fits meaning
-constants_mean_their_values m names place f e n value read h = subst (λ judged. Fits judged (meaning_within m n f Empty)) h (within_means m names place n f e read)
+constants_mean_their_values m names place f e n value read h = subst (λ judged. Fits judged (meaning_within m n e Empty)) h (within_means m names place n f e read)
 
 no_value_is : (meant : Meaning) → IsNoValue meant → (meant ≡ Failed) ⊎ (meant ≡ Wide)
 no_value_is meant failed = inl refl
@@ -169,4 +156,4 @@ no_value_is meant wide = inr refl
 pub failing_constants_mean_none : FailingConstantsMeanNone
 unfolding Fits meaning
 failing_constants_mean_none m names place at f e n read h =
-    no_value_is (meaning_within m n f Empty) (subst (λ judged. Fits judged (meaning_within m n f Empty)) h (within_means m names place n f e read) refl)
+    no_value_is (meaning_within m n e Empty) (subst (λ judged. Fits judged (meaning_within m n e Empty)) h (within_means m names place n f e read) refl)

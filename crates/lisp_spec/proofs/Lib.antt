@@ -7,8 +7,6 @@ pub mod MacroCases
 mod ExpansionRows
 mod TurnRows
 pub mod Reading
-pub mod FormFaults
-pub mod ReadSound
 pub mod Sources
 mod MeaningRows
 pub mod ModuleCases
@@ -20,8 +18,14 @@ mod TextMeaningRows
 mod BuiltInRows
 mod FaultTextRows
 pub mod MeaningProofs
+pub mod FormEnvironments
+pub mod FormMeaning
+pub mod FormMeaningProofs
 pub mod ModuleProofs
 pub mod ConstantProofs
+pub mod NamesFound
+pub mod Widening
+pub mod FormsAgree
 pub mod BoundProofs
 pub mod WalkProofs
 pub mod CycleProofs

@@ -18,9 +18,9 @@ MayBeConstant names f e = IsExpression (constant_scope names) f e
 -- the count is.
 abbrev pub ConstantsMeanTheirValues : Type 0
 ConstantsMeanTheirValues = (m : Module) (names : List (List ℕ)) (place : Place) (f : Form) (e : Expression) (n : ℕ) (value : Tree) → MayBeConstant names f e →
-    expression_value place m.constants e ≡ Ok value → meaning m f Empty n ≡ Value value
+    expression_value place m.constants e ≡ Ok value → meaning m e Empty n ≡ Value value
 
 -- One that fails means no value.
 abbrev pub FailingConstantsMeanNone : Type 0
 FailingConstantsMeanNone = (m : Module) (names : List (List ℕ)) (place at : Place) (f : Form) (e : Expression) (n : ℕ) → MayBeConstant names f e →
-    expression_value place m.constants e ≡ Err (fault ConstantFails at) → (meaning m f Empty n ≡ Failed) ⊎ (meaning m f Empty n ≡ Wide)
+    expression_value place m.constants e ≡ Err (fault ConstantFails at) → (meaning m e Empty n ≡ Failed) ⊎ (meaning m e Empty n ≡ Wide)

@@ -9,6 +9,7 @@ pub mod Macros
 pub mod MacroBodies
 pub mod Expansion
 pub mod ExpansionLaws
+pub mod OperandForms
 pub mod Environments
 pub mod Meaning
 pub mod Agreement

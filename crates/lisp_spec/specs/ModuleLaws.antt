@@ -44,9 +44,13 @@ HasNotBoth = (texts : Texts) (text : List ℕ) (m : Module) (f : Fault) → Stan
 abbrev pub IsBound : Module → Form → Form → Type 0
 IsBound m params body = (e : Expression) × IsExpression (module_scope m params) body e
 
-abbrev pub NamesAreBound : Type 0
-NamesAreBound = (texts : Texts) (text : List ℕ) (m : Module) → StandsFor texts text m →
+-- So are all its bodies.
+abbrev pub AreBound : Module → Type 0
+AreBound m =
     AllByRecursion (λ d. IsBound m d.params d.body) m.functions × AllByRecursion (λ d. IsBound m d.params d.body) m.inlines × IsBound m m.params m.body
+
+abbrev pub NamesAreBound : Type 0
+NamesAreBound = (texts : Texts) (text : List ℕ) (m : Module) → StandsFor texts text m → AreBound m
 
 -- No name is there twice.
 abbrev pub Distinct : List (List ℕ) → Type 0
