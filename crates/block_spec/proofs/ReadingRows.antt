@@ -9,7 +9,7 @@ use Rattle.coin_facts.specs.Atoms.{number_atom}
 use Rattle.block_spec.specs.declared.spend.Spend.{Spend}
 use Rattle.block_spec.specs.declared.attested.Signed.{Signed}
 use Rattle.block_spec.specs.declared.block.Block.{Block}
-use Rattle.block_spec.specs.BundleTree.{generator, attested_tree}
+use Rattle.block_spec.specs.BundleTree.{generator}
 use Rattle.block_spec.specs.BlockTree.{block_bytes}
 use Rattle.block_spec.specs.BlockReading.{hash_of_tree, block_of}
 

@@ -1,5 +1,5 @@
 -- A block's bytes are read as that block.
-use Rattle.std.proofs.Common.{◌≡◌, ℕ, ◌+◌, ◌*◌, ◌^◌, ◌<◌, ◌≤◌, ◌==◌, ◌&&◌, Bool, true, false, cond, nat_lt, nat_le, Option, Some, None, Ok, List, [], ◌∷◌, ◌++◌, map, length, ℤ, pos, negsuc, FitsSigned, refl, ap, sym, ◌∙◌, subst, arith}
+use Rattle.std.proofs.Common.{◌≡◌, ℕ, ◌^◌, ◌<◌, ◌≤◌, ◌==◌, ◌&&◌, Bool, true, false, cond, nat_lt, nat_le, Option, Some, None, List, [], ◌∷◌, map, length, ℤ, pos, negsuc, refl, ap, sym, ◌∙◌, arith}
 use Rattle.std.specs.Prelude.{IsTrue, option_map, is_some, unwrap_or}
 use Rattle.std.specs.Int.{w128, cast_unsigned}
 use Rattle.std.specs.List.{AllByRecursion}
@@ -8,27 +8,26 @@ use Rattle.std.specs.Str.{bytes_eq}
 use Rattle.std.proofs.lemmas.Bool.{lt-ltb, eq-eqb, cond-true, and_parts}
 use Rattle.std.proofs.lemmas.Slice.Eq.{bytes_eq-Decides}
 use Rattle.std.proofs.lemmas.List.{append-nil}
-use Rattle.clvm_spec.specs.Tree.{Tree, Atom, Pair, nil, list_tree}
-use Rattle.clvm_spec.specs.Spelling.{spelling, HasSpelling, Spells}
-use Rattle.clvm_spec.specs.Reading.{HasTree, front_read, IsTree, IsLonger, whole_of, whole_read, tree_of}
+use Rattle.clvm_spec.specs.Tree.{Tree, Atom, nil, list_tree}
+use Rattle.clvm_spec.specs.Spelling.{spelling, HasSpelling}
+use Rattle.clvm_spec.specs.Reading.{front_read, IsTree, IsLonger, whole_of, whole_read, tree_of}
 use Rattle.clvm_spec.specs.Numbers.{unsigned, is_natural, complemented, number, shortest_atom}
 use Rattle.clvm_spec.specs.Laws.{AreBytes}
 use Rattle.clvm_spec.specs.Spelled.{is_spelled, spelled_tree}
-use Rattle.clvm_spec.specs.ProperList.{elements}
 use Rattle.clvm_spec.proofs.WholeLaws.{reads_spelled, whole_is_spelled}
 use Rattle.clvm_spec.proofs.ShortestLaws.{wide, number-shortest, length-without, length-high_first}
 use Rattle.clvm_spec.proofs.ListLaws.{elements_of_list}
 use Rattle.coin_facts.specs.declared.hash32.Hash32.{Hash32}
 use Rattle.coin_facts.specs.declared.sizes.TheConstants.{HASH_BYTES, KEY_BYTES}
 use Rattle.coin_facts.specs.Steps.{◌>>=◌, all_of, when}
-use Rattle.coin_facts.specs.Atoms.{atom_bytes, hash_of, key_of, number_atom, number_below, amount_of}
+use Rattle.coin_facts.specs.Atoms.{hash_of, number_atom, number_below}
 use Rattle.block_spec.specs.declared.spend.Spend.{Spend}
 use Rattle.block_spec.specs.declared.attested.Signed.{Signed}
 use Rattle.block_spec.specs.declared.block.Block.{Block}
 use Rattle.block_spec.specs.Attestable.{AreAttestable, IsAttestable}
-use Rattle.block_spec.specs.BundleTree.{spend_tree, spends_tree, generator, signed_tree, attested_tree}
+use Rattle.block_spec.specs.BundleTree.{spend_tree, generator, signed_tree, attested_tree}
 use Rattle.block_spec.specs.BlockTree.{block_tree, block_bytes}
-use Rattle.block_spec.specs.BlockReading.{hash_of_tree, spend_of, spends_of, signed_of, attested_of, block_of_parts, block_of_tree, block_of_whole, block_of}
+use Rattle.block_spec.specs.BlockReading.{hash_of_tree, spend_of, spends_of, signed_of, attested_of, block_of_tree, block_of_whole, block_of}
 use Rattle.block_spec.specs.BlockLaws.{IsHash, IsWritableSpend, IsWritable, WrittenIsRead}
 
 -- ---- atoms

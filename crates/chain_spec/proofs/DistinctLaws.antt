@@ -1,15 +1,15 @@
 -- The records of a sound chain have distinct ids.
-use Rattle.std.proofs.Common.{◌≡◌, ℕ, suc, Bool, true, false, ◌||◌, not, ◌&&◌, cond, if◌then◌else◌, Option, Some, None, List, [], ◌∷◌, ◌++◌, map, refl, ap, sym, ◌∙◌, subst}
+use Rattle.std.proofs.Common.{◌≡◌, ℕ, suc, Bool, true, false, ◌||◌, not, ◌&&◌, cond, if◌then◌else◌, Some, List, [], ◌∷◌, ◌++◌, map, refl, ap, sym, ◌∙◌, subst}
 use Rattle.std.specs.Prelude.{is_some}
-use Rattle.std.specs.List.{IsDistinct, AllByRecursion, list_any, list_all, find}
+use Rattle.std.specs.List.{IsDistinct, AllByRecursion, list_all, find}
 use Rattle.std.proofs.lemmas.List.{map-append}
 use Rattle.coin_facts.specs.declared.hash32.Hash32.{Hash32}
 use Rattle.coin_facts.specs.declared.coin.Coin.{Coin}
 use Rattle.coin_facts.specs.CoinId.{coin_id}
 use Rattle.coin_facts.specs.IdLists.{is_same_id, has_id, is_among}
 use Rattle.chain_spec.specs.declared.chain.Record.{Record}
-use Rattle.chain_spec.specs.Chain.{Ledger, Connected, Chain, is_in_chain, made_at, spent_at, start_record, after_block, after_blocks, start_ledger, ledger_of}
-use Rattle.chain_spec.specs.Soundness.{CanConnect, CanFollow, IsSound}
+use Rattle.chain_spec.specs.Chain.{Ledger, Connected, is_in_chain, made_at, spent_at, after_block, after_blocks, start_ledger}
+use Rattle.chain_spec.specs.Soundness.{CanConnect, CanFollow}
 use Rattle.chain_spec.specs.ChainLaws.{ids_of, RecordsAreApart}
 
 either : (x y : Bool) → (x || y) ≡ false → (x ≡ false) × (y ≡ false)

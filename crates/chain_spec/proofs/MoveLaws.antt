@@ -1,19 +1,18 @@
 -- Chains and records after connects and undos.
-use Rattle.std.proofs.Common.{◌≡◌, ℕ, zero, suc, ◌+◌, ◌-◌, Bool, true, false, ◌||◌, List, [], ◌∷◌, ◌++◌, map, length, take, drop, refl, ap, sym, ◌∙◌, subst, append_assoc, arith}
+use Rattle.std.proofs.Common.{◌≡◌, ℕ, ◌+◌, ◌-◌, false, List, [], ◌∷◌, ◌++◌, map, length, take, drop, refl, ap, sym, ◌∙◌, subst, append_assoc, arith}
 use Rattle.std.specs.Prelude.{reverse}
-use Rattle.std.specs.List.{IsDistinct, flat_map, list_any}
+use Rattle.std.specs.List.{IsDistinct, flat_map}
 use Rattle.std.proofs.lemmas.Bool.{or_parts, or_from}
 use Rattle.std.proofs.lemmas.List.{map-append, append-nil, reverse-append, take-append-drop, drop_at}
 use Rattle.std.proofs.lemmas.List.Concat.{flat_map-append}
 use Rattle.std.proofs.lemmas.List.Folds.{list_any-append}
 use Rattle.coin_facts.specs.declared.hash32.Hash32.{Hash32}
-use Rattle.coin_facts.specs.declared.coin.Coin.{Coin}
 use Rattle.coin_facts.specs.CoinId.{coin_id}
 use Rattle.coin_facts.specs.IdLists.{is_same_id, is_among}
 use Rattle.chain_spec.specs.Chain.{Ledger, Connected, Chain, look_up, is_in_chain, touched_by, start_record, after_block, after_blocks, start_ledger, ledger_of}
 use Rattle.chain_spec.specs.Soundness.{HasDistinctIds, CanConnect, CanFollow, IsSound}
 use Rattle.chain_spec.specs.StoreViews.{StoreView, started, connected, without_last}
-use Rattle.chain_spec.specs.ChangeLaws.{with_one_more, LedgerGrows, ConnectedIsSound, StartedIsSound, HeightIsBlocks, UndoneIsSound, Move, Connects, Undoes, moved, after_moves, changed_since, ChangesGrow, ChangesTell}
+use Rattle.chain_spec.specs.ChangeLaws.{LedgerGrows, ConnectedIsSound, StartedIsSound, HeightIsBlocks, UndoneIsSound, Move, Connects, Undoes, moved, after_moves, changed_since, ChangesGrow, ChangesTell}
 use Rattle.chain_spec.specs.ChainLaws.{ids_of}
 use Rattle.chain_spec.proofs.DistinctLaws.{ids-made, not-found, distinct-append}
 use Rattle.chain_spec.proofs.LookLaws.{untouched}

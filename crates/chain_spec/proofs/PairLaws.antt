@@ -1,8 +1,8 @@
 -- Unspent coins of a puzzle hash and an amount, in two ledgers that differ elsewhere.
-use Rattle.std.proofs.Common.{◌≡◌, ℕ, ◌==◌, Bool, true, false, ◌&&◌, ◌||◌, not, cond, Option, Some, None, List, [], ◌∷◌, map, refl, ap, sym, ◌∙◌, subst}
+use Rattle.std.proofs.Common.{◌≡◌, ℕ, ◌==◌, Bool, true, false, ◌&&◌, ◌||◌, cond, Option, Some, List, [], ◌∷◌, refl, ap, sym, ◌∙◌}
 use Rattle.std.specs.Prelude.{filter, is_none}
 use Rattle.std.specs.List.{IsDistinct, AllByRecursion, find}
-use Rattle.std.proofs.lemmas.Bool.{false≢true, and_parts, or_left, or_right, cases_Bool}
+use Rattle.std.proofs.lemmas.Bool.{false≢true, and_parts, or_left, or_right}
 use Rattle.std.proofs.lemmas.Slice.Eq.{bytes_eq-Decides}
 use Rattle.coin_facts.specs.declared.hash32.Hash32.{Hash32}
 use Rattle.coin_facts.specs.CoinId.{coin_id}
@@ -12,7 +12,7 @@ use Rattle.chain_spec.specs.declared.chain.Unspent.TheVariants as unspent
 use Rattle.chain_spec.specs.Chain.{Ledger, look_up}
 use Rattle.chain_spec.specs.Looks.{is_unspent_of, is_outside, unspent_in}
 use Rattle.chain_spec.specs.ChainLaws.{ids_of}
-use Rattle.chain_spec.specs.ChangeLaws.{is_of, IsElsewhere, PairsStand}
+use Rattle.chain_spec.specs.ChangeLaws.{is_of, PairsStand}
 use Rattle.chain_spec.proofs.LookLaws.{same-id}
 
 abbrev id_of : Record → Hash32

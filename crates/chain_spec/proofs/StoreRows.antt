@@ -1,5 +1,5 @@
 -- A store that connects, undoes and reverts, computed: its records, its peak, its unspent coins and its changes.
-use Rattle.std.proofs.Common.{◌≡◌, ℕ, true, false, Some, None, List, [], ◌∷◌, map, replicate, refl, sym, arith}
+use Rattle.std.proofs.Common.{◌≡◌, ℕ, Some, None, List, [], ◌∷◌, replicate, refl, sym, arith}
 use Rattle.std.proofs.lemmas.Bool.{true≢false}
 use Rattle.std.specs.Prelude.{option_map}
 use Rattle.std.specs.List.{IsDistinct}
@@ -9,9 +9,8 @@ use Rattle.coin_facts.specs.declared.hash32.Hash32.{Hash32}
 use Rattle.coin_facts.specs.declared.coin.Coin.{Coin}
 use Rattle.coin_facts.specs.CoinId.{coin_id}
 use Rattle.chain_spec.specs.declared.chain.Record.{Record}
-use Rattle.chain_spec.specs.declared.chain.Peak.{Peak}
 use Rattle.chain_spec.specs.declared.chain.Unspent.TheVariants as unspent
-use Rattle.chain_spec.specs.Chain.{Ledger, Connected, Chain, ledger_of, records_of, peak_of, look_up}
+use Rattle.chain_spec.specs.Chain.{Connected, ledger_of, records_of, peak_of}
 use Rattle.chain_spec.specs.Looks.{unspent_of, part_of}
 use Rattle.chain_spec.specs.Soundness.{CanConnect, IsSound}
 use Rattle.chain_spec.specs.StoreViews.{StoreView, started, connected, undone, reverted}

@@ -1,5 +1,5 @@
 -- One verdict on ledgers that agree on a list of spends.
-use Rattle.std.proofs.Common.{◌≡◌, ℕ, suc, ◌+◌, ◌&&◌, ◌||◌, not, Bool, true, false, cond, nat_lt, Option, Some, None, Result, Ok, Err, List, [], ◌∷◌, ◌++◌, map, length, refl, ap, sym, ◌∙◌, subst, append_assoc}
+use Rattle.std.proofs.Common.{◌≡◌, ℕ, suc, ◌+◌, ◌&&◌, ◌||◌, not, Bool, true, false, cond, nat_lt, Some, None, Result, Ok, Err, List, [], ◌∷◌, ◌++◌, map, length, refl, ap, sym, ◌∙◌, subst, append_assoc}
 use Rattle.std.specs.Prelude.{is_some, position, if◌then◌else◌}
 use Rattle.std.specs.List.{AllByRecursion, list_any, list_all, prefix_len}
 use Rattle.std.proofs.lemmas.List.{append-nil, map-append}
@@ -8,10 +8,9 @@ use Rattle.clvm_spec.specs.Evaluation.{run_cost, fuel_of}
 use Rattle.coin_facts.specs.declared.hash32.Hash32.{Hash32}
 use Rattle.coin_facts.specs.declared.coin.Coin.{Coin}
 use Rattle.coin_facts.specs.CoinId.{coin_id}
-use Rattle.coin_facts.specs.IdLists.{is_among, repeat_behind}
+use Rattle.coin_facts.specs.IdLists.{repeat_behind}
 use Rattle.block_spec.specs.declared.spend.Spend.{Spend}
 use Rattle.block_spec.specs.declared.attested.Signed.{Signed}
-use Rattle.chain_spec.specs.declared.chain.Record.{Record}
 use Rattle.chain_spec.specs.declared.chain.Peak.{Peak}
 use Rattle.chain_spec.specs.Chain.{Ledger, look_up, is_in_chain}
 use Rattle.cond_spec.specs.declared.condition.Condition.{Condition}
@@ -23,7 +22,7 @@ use Rattle.cond_spec.specs.ActRules.{same_output, wrong_own_fact, unmade_announc
 use Rattle.judge_spec.specs.declared.rule.Rule.TheVariants as rules
 use Rattle.judge_spec.specs.Facts.{Facts, acts_of, Breach, SameOutput, OwnFact, OtherPuzzle, unless_at, of_listing, of_run, run_of, has_its_puzzle, facts_of}
 use Rattle.judge_spec.specs.Locked.{is_reached, is_ahead}
-use Rattle.judge_spec.specs.Checks.{Terms, Scene, id_of, acts_in, first_spend, is_created, is_unknown, is_spent, is_spent_in_chain, has_other_birth, has_wrong_birth, is_too_early, is_too_late, is_attested, is_not_attested, has_old_id, old_id_from, created_by_each, coin_exists}
+use Rattle.judge_spec.specs.Checks.{Terms, Scene, id_of, first_spend, is_created, is_unknown, is_spent, is_spent_in_chain, has_other_birth, has_wrong_birth, is_too_early, is_too_late, is_attested, is_not_attested, old_id_from, created_by_each, coin_exists}
 use Rattle.judge_spec.specs.Judgement.{Verdict, Fine, unless_broken, cost_of, fee_of, judged, within_limit, if_facts, with_facts, with_costs, spent_twice, spends_in, judgement, judgement_of_facts}
 use Rattle.judge_spec.specs.JudgeLaws.{AreFound, scene_of}
 use Rattle.judge_spec.specs.Agreement.{AgreeOn, LooksAtItsCoins, SpendsLookAtTheirCoins}

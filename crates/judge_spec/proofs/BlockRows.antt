@@ -1,10 +1,9 @@
 -- Verdicts on blocks, and the blocks as the chain has them, computed.
-use Rattle.std.proofs.Common.{◌≡◌, ℕ, ◌+◌, ◌*◌, None, List, [], ◌∷◌, ◌++◌, map, refl}
+use Rattle.std.proofs.Common.{◌≡◌, ℕ, ◌+◌, ◌*◌, None, List, [], ◌∷◌, ◌++◌, refl}
 use Rattle.sha2.specs.Sha256.{sha256, digest_bytes, hash_after, compress, rounds, schedule, first_words}
 use Rattle.clvm_spec.specs.Reading.{head_at, tree_at_front}
 use Rattle.clvm_spec.specs.Numbers.{without_sign_bytes, shortest_atom}
 use Rattle.clvm_spec.specs.Evaluation.{evaluation}
-use Rattle.coin_facts.specs.declared.hash32.Hash32.{Hash32}
 use Rattle.coin_facts.specs.declared.coin.Coin.{Coin}
 use Rattle.coin_facts.specs.CoinId.{coin_id}
 use Rattle.block_spec.specs.declared.spend.Spend.{Spend}
@@ -18,7 +17,7 @@ use Rattle.cond_spec.proofs.ConditionRows.{hash}
 use Rattle.judge_spec.specs.Facts.{Facts, facts_of}
 use Rattle.judge_spec.specs.Judgement.{judgement}
 use Rattle.judge_spec.specs.BlockJudgement.{BlockVerdict, Accepts, Breaks, block_judgement, connected_block}
-use Rattle.judge_spec.proofs.RowParts.{asks, ledger, there, pays, other_puzzle}
+use Rattle.judge_spec.proofs.RowParts.{asks, ledger, there, pays}
 
 -- ---- the parts
 

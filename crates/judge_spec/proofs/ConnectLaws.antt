@@ -1,8 +1,8 @@
 -- An accepted block can be connected.
-use Rattle.std.proofs.Common.{◌≡◌, ℕ, suc, ◌-◌, ◌^◌, ◌<◌, ◌==◌, ◌&&◌, ◌||◌, not, Bool, true, false, nat_lt, Option, Some, None, List, [], ◌∷◌, ◌++◌, map, refl, ap, sym, ◌∙◌, subst, arith}
+use Rattle.std.proofs.Common.{◌≡◌, ℕ, suc, ◌-◌, ◌^◌, ◌<◌, ◌==◌, ◌&&◌, ◌||◌, not, Bool, true, false, nat_lt, None, List, [], ◌∷◌, ◌++◌, map, refl, ap, sym, ◌∙◌, subst, arith}
 use Rattle.std.specs.Prelude.{option_to_list}
 use Rattle.std.specs.List.{IsDistinct, list_all}
-use Rattle.std.proofs.lemmas.Bool.{and_parts, and_from, or_parts, or_cases, or_left, or_right, not-true, not-false, not_from_false, eqb-true}
+use Rattle.std.proofs.lemmas.Bool.{and_parts, and_from, or_parts, or_left, not-true, not_from_false, eqb-true}
 use Rattle.std.proofs.lemmas.List.{append-nil, map-append}
 use Rattle.std.proofs.lemmas.List.Folds.{list_all-append, list_any-append}
 use Rattle.coin_facts.specs.declared.hash32.Hash32.{Hash32}
@@ -13,17 +13,16 @@ use Rattle.coin_facts.specs.IdLists.{is_same_id, is_among}
 use Rattle.block_spec.specs.declared.block.Block.{Block}
 use Rattle.chain_spec.specs.declared.chain.Peak.{Peak}
 use Rattle.chain_spec.specs.Chain.{Ledger, look_up, is_in_chain, ledger_of}
-use Rattle.chain_spec.specs.Soundness.{HasDistinctIds, is_unspent, is_spendable, CanConnect}
+use Rattle.chain_spec.specs.Soundness.{HasDistinctIds, is_unspent, is_spendable}
 use Rattle.chain_spec.proofs.DistinctLaws.{distinct-append}
 use Rattle.chain_spec.proofs.MoveLaws.{connected-is-sound}
-use Rattle.cond_spec.specs.Acts.{Acts, spent_ids, created_coins, created_ids}
+use Rattle.cond_spec.specs.Acts.{spent_ids, created_coins, created_ids}
 use Rattle.judge_spec.specs.declared.rule.Rule.TheVariants.{NotNext, NotLater}
-use Rattle.judge_spec.specs.Facts.{Facts, acts_of}
-use Rattle.judge_spec.specs.Checks.{Terms}
-use Rattle.judge_spec.specs.Judgement.{Fine, unless_broken, spends_in, judgement, judgement_of_facts}
-use Rattle.judge_spec.specs.BlockJudgement.{follows, not_next, not_later, verdict_of_block, reward_coin, is_rewarded, with_reward, connected_block}
-use Rattle.judge_spec.specs.FineLaws.{is_held, IsSpendable}
-use Rattle.judge_spec.specs.ConnectLaws.{IsFineBlock, FineConnects, FineStaysSound}
+use Rattle.judge_spec.specs.Facts.{acts_of}
+use Rattle.judge_spec.specs.Judgement.{Fine, unless_broken, judgement, judgement_of_facts}
+use Rattle.judge_spec.specs.BlockJudgement.{follows, not_next, not_later, reward_coin, is_rewarded, with_reward, connected_block}
+use Rattle.judge_spec.specs.FineLaws.{is_held}
+use Rattle.judge_spec.specs.ConnectLaws.{FineConnects, FineStaysSound}
 use Rattle.judge_spec.proofs.FactLaws.{facts-decide}
 use Rattle.judge_spec.proofs.FineLaws.{unbroken}
 use Rattle.judge_spec.proofs.FineCoins.{fine-is-spendable}

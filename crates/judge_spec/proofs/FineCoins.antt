@@ -2,9 +2,7 @@
 use Rattle.std.proofs.Common.{◌≡◌, ℕ, suc, ◌+◌, ◌*◌, ◌-◌, ◌^◌, ◌<◌, ◌≤◌, ◌&&◌, ◌||◌, not, Bool, true, false, cond, nat_lt, Option, Some, None, Result, Ok, Err, List, [], ◌∷◌, ◌++◌, map, length, refl, ap, sym, ◌∙◌, subst, arith}
 use Rattle.std.specs.Prelude.{is_some, is_none, position, if◌then◌else◌}
 use Rattle.std.specs.List.{AllByRecursion, IsDistinct, list_any, list_all, prefix_len, sum_by}
-use Rattle.std.specs.Str.{bytes_eq}
-use Rattle.std.proofs.lemmas.Bool.{or_parts, or_left, not-false, ltb-false, and_from}
-use Rattle.std.proofs.lemmas.Bool.Decides.{nat_tests}
+use Rattle.std.proofs.lemmas.Bool.{or_parts, or_left, ltb-false, and_from}
 use Rattle.std.proofs.lemmas.List.{map-append}
 use Rattle.std.proofs.lemmas.List.Folds.{list_all-append, list_any-append}
 use Rattle.std.proofs.lemmas.List.Sums.{sum_by-cons}
@@ -12,7 +10,6 @@ use Rattle.std.proofs.lemmas.Slice.Eq.{bytes_eq-Decides}
 use Rattle.clvm_spec.specs.Hashing.{tree_hash}
 use Rattle.clvm_spec.specs.Spelled.{spelled_tree}
 use Rattle.coin_facts.specs.declared.hash32.Hash32.{Hash32}
-use Rattle.coin_facts.specs.declared.coin.Coin.{Coin}
 use Rattle.coin_facts.specs.CoinId.{coin_id}
 use Rattle.coin_facts.specs.Steps.{when}
 use Rattle.coin_facts.specs.IdLists.{is_same_id, is_among, repeat_behind}
@@ -25,13 +22,13 @@ use Rattle.chain_spec.specs.declared.chain.Peak.{Peak}
 use Rattle.chain_spec.specs.Chain.{Ledger, look_up, is_in_chain}
 use Rattle.chain_spec.specs.Soundness.{is_unspent}
 use Rattle.chain_spec.proofs.DistinctLaws.{all-append, apart-first, apart-rest, distinct-append}
-use Rattle.cond_spec.specs.Acts.{Acts, of_spend, of_list, coin_made, spent_ids, created_coins, created_ids, spent_amounts, created_amounts}
+use Rattle.cond_spec.specs.Acts.{Acts, of_spend, of_list, coin_made, spent_ids, created_ids, spent_amounts, created_amounts}
 use Rattle.judge_spec.specs.declared.rule.Rule.TheVariants.{SpentTwice}
 use Rattle.judge_spec.specs.Facts.{Facts, acts_of, Breach, OtherPuzzle, of_run, run_of, has_its_puzzle, facts_of}
-use Rattle.judge_spec.specs.Checks.{Terms, Scene, id_of, acts_in, is_created, is_unknown, is_spent, is_spent_in_chain, has_old_id, old_id_from, created_by_each}
-use Rattle.judge_spec.specs.Judgement.{Verdict, Fine, charged, cost_of, fee_of, judged, within_limit, if_facts, with_facts, spent_twice, spends_in, judgement, judgement_of_facts}
-use Rattle.judge_spec.specs.JudgeLaws.{AreFound, AreKept, all_checks, scene_of}
-use Rattle.judge_spec.specs.FineLaws.{is_held, IsSpendable, FineIsSpendable, FineCostsSomething, FineFeeFits, IsFoundFine, FineHasFacts, IsOwnPuzzle, FineHasItsPuzzles}
+use Rattle.judge_spec.specs.Checks.{Terms, id_of, is_unknown, is_spent, is_spent_in_chain, has_old_id, old_id_from, created_by_each}
+use Rattle.judge_spec.specs.Judgement.{Verdict, Fine, charged, cost_of, fee_of, judged, within_limit, if_facts, with_facts, spent_twice, spends_in, judgement}
+use Rattle.judge_spec.specs.JudgeLaws.{AreFound, scene_of}
+use Rattle.judge_spec.specs.FineLaws.{is_held, FineIsSpendable, FineCostsSomething, FineFeeFits, FineHasFacts, IsOwnPuzzle, FineHasItsPuzzles}
 use Rattle.judge_spec.proofs.FactLaws.{facts-decide}
 use Rattle.judge_spec.proofs.FineLaws.{unbroken, within-one, fine-is-kept}
 use Rattle.judge_spec.proofs.AgreementLaws.{found-spend}
@@ -51,12 +48,12 @@ unplaced : (b : Bool) (n : ℕ) → cond b (Some n) None ≡ None → b ≡ fals
 unplaced true n e = cc
 unplaced false n e = refl
 
-none-at : {A : Type 0} (p : A → Bool) (xs : List A) → position p xs ≡ None → AllByRecursion (λ x. p x ≡ false) xs
+pub none-at : {A : Type 0} (p : A → Bool) (xs : List A) → position p xs ≡ None → AllByRecursion (λ x. p x ≡ false) xs
 none-at p xs e =
     let first = prefix_len (λ x. not (p x)) xs in
     none-before p xs (ltb-false first (length xs) (unplaced (nat_lt first (length xs)) first e))
 
-neither : (b : Bool) (place : ℕ) (rest : Option ℕ) → (if b then Some place else rest) ≡ None → (b ≡ false) × (rest ≡ None)
+pub neither : (b : Bool) (place : ℕ) (rest : Option ℕ) → (if b then Some place else rest) ≡ None → (b ≡ false) × (rest ≡ None)
 neither true place rest e = cc
 neither false place rest e = (refl, e)
 

@@ -9,3 +9,4 @@ pub mod JudgeLaws
 pub mod Agreement
 pub mod FineLaws
 pub mod ConnectLaws
+pub mod GrowthLaws

@@ -4,3 +4,16 @@ pub mod Bundles
 pub mod Lines
 pub mod FirstForm
 pub mod Texts
+pub mod MemberNames
+pub mod LineFaults
+pub mod Results
+pub mod Values
+pub mod LineMembers
+pub mod BundleMembers
+pub mod LineKinds
+pub mod CommandLines
+pub mod Sessions
+pub mod Words
+pub mod Outputs
+pub mod Replays
+pub mod Making

@@ -1,2 +1,7 @@
 //! The definitions of a session's text: the session that an input is, and what is written for a history.
 #![tactic(auto)]
+
+pub mod limits;
+mod member;
+
+pub use member::Member;
