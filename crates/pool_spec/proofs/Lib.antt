@@ -1,5 +1,6 @@
 mod AdmissionRows
 mod AssemblyRows
+pub mod FirstLaws
 pub mod FitLaws
 mod FitRows
 mod LineageRows
