@@ -29,5 +29,10 @@ pub mod FormsAgree
 pub mod BoundProofs
 pub mod WalkProofs
 pub mod CycleProofs
+pub mod FormCycles
+pub mod FormWeights
+pub mod FormCycleLaws
+pub mod FormCycleProofs
+pub mod FormNestingProofs
 pub mod NestingProofs
 pub mod InclusionProofs

@@ -185,20 +185,20 @@ either_one : (a b : Bool) → (a || b) ≡ true → a ≡ false → b ≡ true
 either_one true b e h = absurd cc
 either_one false b e h = e
 
-no_cycles : (inlines : List Definition) (definitions : List Written) → cycle_fault inlines definitions ≡ None →
-    AllByRecursion (λ d. is_role Inline d.role ≡ true → reaches_itself inlines d.name ≡ false) definitions
-no_cycles inlines [] e = tt
-no_cycles inlines (d ∷ definitions) e =
-    let h = or_none (expect (not (is_role Inline d.role && reaches_itself inlines d.name)) InlineCycle d.place) (cycle_fault inlines definitions) e in
-    (not_both (is_role Inline d.role) (reaches_itself inlines d.name) (expect_none _ _ _ h.0), no_cycles inlines definitions h.1)
+no_cycles : (m : Module) (definitions : List Written) → cycle_fault m definitions ≡ None →
+    AllByRecursion (λ d. is_role Inline d.role ≡ true → reaches_itself m d.name ≡ false) definitions
+no_cycles m [] e = tt
+no_cycles m (d ∷ definitions) e =
+    let h = or_none (expect (not (is_role Inline d.role && reaches_itself m d.name)) InlineCycle d.place) (cycle_fault m definitions) e in
+    (not_both (is_role Inline d.role) (reaches_itself m d.name) (expect_none _ _ _ h.0), no_cycles m definitions h.1)
 
 pub inlines_end : InlinesEnd
 inlines_end texts text m e =
     let s = stages texts text m e in
     let made = module_with s.draft s.constants in
-    let h = or_none (cycle_fault made.inlines s.draft.definitions) _ s.ends in
-    subst (λ m. AllByRecursion (λ d. reaches_itself m.inlines d.name ≡ false) m.inlines) s.is
-    (of_inlines (λ d. reaches_itself made.inlines d.name ≡ false) s.draft.definitions (no_cycles made.inlines s.draft.definitions h.0))
+    let h = or_none (cycle_fault made s.draft.definitions) _ s.ends in
+    subst (λ m. AllByRecursion (λ d. reaches_itself m d.name ≡ false) m.inlines) s.is
+    (of_inlines (λ d. reaches_itself made d.name ≡ false) s.draft.definitions (no_cycles made s.draft.definitions h.0))
 
 light_bodies : (m : Module) (definitions : List Written) → weights_fault m definitions ≡ None →
     AllByRecursion (NoConstant (λ d. definition_weight m (definition d) ≤ weight_limit)) definitions
@@ -211,7 +211,7 @@ pub weights_are_within_the_limit : WeightsAreWithinTheLimit
 weights_are_within_the_limit texts text m e =
     let s = stages texts text m e in
     let made = module_with s.draft s.constants in
-    let h = or_none (cycle_fault made.inlines s.draft.definitions) _ s.ends in
+    let h = or_none (cycle_fault made s.draft.definitions) _ s.ends in
     let w = or_none (weights_fault made s.draft.definitions) (expect (is_light made made.params made.body) TooLarge s.draft.body_place) h.1 in
     let bodies = light_bodies made s.draft.definitions w.0 in
     subst (λ m. AllByRecursion (λ d. definition_weight m d ≤ weight_limit) m.functions × AllByRecursion (λ d. definition_weight m d ≤ weight_limit) m.inlines

@@ -74,7 +74,7 @@ DefinitionsAreNamed = (texts : Texts) (text : List ℕ) (m : Module) → StandsF
 
 abbrev pub InlinesEnd : Type 0
 InlinesEnd = (texts : Texts) (text : List ℕ) (m : Module) → StandsFor texts text m →
-    AllByRecursion (λ d. reaches_itself m.inlines d.name ≡ false) m.inlines
+    AllByRecursion (λ d. reaches_itself m d.name ≡ false) m.inlines
 
 abbrev pub WeightsAreWithinTheLimit : Type 0
 WeightsAreWithinTheLimit = (texts : Texts) (text : List ℕ) (m : Module) → StandsFor texts text m →
