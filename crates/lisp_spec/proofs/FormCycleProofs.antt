@@ -1,5 +1,5 @@
 -- Paths of calls in forms: that they need no inline twice, so that there are no more steps than inlines.
-use Rattle.std.proofs.Common.{◌≡◌, ◌≢◌, ℕ, zero, suc, ◌≤◌, ◌<◌, ◌⊎◌, inl, inr, Bool, true, false, not, ◌||◌, cond, List, [], ◌∷◌, length, Option, Some, None, bytes_eq, refl, sym, ◌∙◌, ap, subst, true≢false, arith}
+use Rattle.std.proofs.Common.{◌≡◌, ◌≢◌, ℕ, zero, suc, ◌<◌, inl, inr, true, false, ◌||◌, List, [], ◌∷◌, length, Option, Some, None, bytes_eq, refl, sym, subst, true≢false, arith}
 use Rattle.std.specs.List.{AllByRecursion}
 use Rattle.lisp_spec.specs.Modules.{Definition, definition_named, definition_names}
 use Rattle.lisp_spec.specs.ModuleFaults.{is_among}
@@ -15,7 +15,7 @@ calls_some (Some d) called e n = absurd cc
 caller_among : (inlines : List Definition) (from called : List ℕ) → Calls inlines from called → is_among from (definition_names inlines) ≡ true
 caller_among inlines from called e = inline_among from inlines (calls_some (definition_named from inlines) called e)
 
-callers_among : (inlines : List Definition) (from : List ℕ) (through : List (List ℕ)) (name : List ℕ) → IsPath inlines from through name →
+pub callers_among : (inlines : List Definition) (from : List ℕ) (through : List (List ℕ)) (name : List ℕ) → IsPath inlines from through name →
     AllByRecursion (λ x. is_among x (definition_names inlines) ≡ true) (from ∷ through)
 callers_among inlines from [] name p = (caller_among inlines from name p, tt)
 callers_among inlines from (called ∷ more) name p = (caller_among inlines from called p.0, callers_among inlines called more name p.1)

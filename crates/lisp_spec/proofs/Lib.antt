@@ -34,5 +34,6 @@ pub mod FormWeights
 pub mod FormCycleLaws
 pub mod FormCycleProofs
 pub mod FormNestingProofs
+pub mod FormsWeigh
 pub mod NestingProofs
 pub mod InclusionProofs

@@ -2,7 +2,7 @@
 -- the limits are this project's own.
 use Rattle.std.specs.Prelude.{ℕ, Bool, ◌&&◌, ◌||◌, List, [], ◌∷◌, ◌++◌, map, Option, None, Ok, Err, nat_le, not, if◌then◌else◌}
 use Rattle.lisp_spec.specs.Forms.{Form, Place, place_of_form}
-use Rattle.lisp_spec.specs.Modules.{Definition, Constant, Module, definition_names}
+use Rattle.lisp_spec.specs.Modules.{Constant, Module, definition_names}
 use Rattle.lisp_spec.specs.Weights.{weight_limit}
 use Rattle.lisp_spec.specs.Macros as macros
 use Rattle.lisp_spec.specs.Macros.{Macro, MacroFault, turns_of_a_module}
