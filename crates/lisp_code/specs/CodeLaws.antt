@@ -33,6 +33,6 @@ ModulesHaveCode = (source : Module) → AreBound source → HasNoCycle source �
 abbrev pub AreMeasured : Module → Codes → Type 0
 AreMeasured source measured = (e : Form) (names : Names) → measured e names ≡ expression_code source (λ e names. Pair nil (measured e names)) e names
 
--- Where no inline reaches itself, that work ends.
+-- Where each body is an expression and no inline reaches itself, that work ends.
 abbrev pub WorkEnds : Type 0
-WorkEnds = (source : Module) → HasNoCycle source → (measured : Codes) × AreMeasured source measured
+WorkEnds = (source : Module) → AreBound source → HasNoCycle source → (measured : Codes) × AreMeasured source measured

@@ -1,10 +1,8 @@
 -- What forms weigh and call is what their expressions do.
-use Rattle.std.proofs.Common.{◌≡◌, ℕ, zero, suc, ◌+◌, ◌*◌, ◌/◌, ◌⊎◌, inl, inr, Bool, true, false, ◌||◌, cond, List, [], ◌∷◌, ◌++◌, map, length, Option, Some, None, Ok, Err, bytes_eq, codes, refl, sym, ◌∙◌, ap, subst, true≢false, arith}
+use Rattle.std.proofs.Common.{◌≡◌, ℕ, zero, suc, ◌+◌, ◌*◌, ◌/◌, inl, inr, Bool, true, false, ◌||◌, cond, List, [], ◌∷◌, ◌++◌, length, Option, Some, None, bytes_eq, refl, sym, ◌∙◌, ap, subst, true≢false, arith}
 use Rattle.std.specs.List.{AllByRecursion, fold}
-use Rattle.clvm_spec.specs.Tree.{Tree}
 use Rattle.lisp_spec.specs.Forms.{Form, Place}
 use Rattle.lisp_spec.specs.Forms as form
-use Rattle.lisp_read.specs.FormLists.{is_symbol}
 use Rattle.lisp_spec.specs.declared.limits.TheConstants.{UNIT_BYTES, FUNCTIONS_A_BYTE}
 use Rattle.lisp_spec.specs.declared.head.Head.{Head}
 use Rattle.lisp_spec.specs.declared.head.Head.TheVariants.{QuotesRest, QuotesOne, Templates, Chooses, Lists, Operates, Calls}
@@ -23,7 +21,7 @@ use Rattle.lisp_spec.proofs.FormCycles as calls
 use Rattle.lisp_spec.proofs.FormCycleLaws as form_laws
 use Rattle.lisp_spec.proofs.FormCycleProofs.{callers_among, found_is_reached}
 use Rattle.lisp_spec.proofs.FormWeights as weights
-use Rattle.lisp_spec.proofs.CycleProofs.{is_same, same_is, cases, or_left, or_right, or_true, finds_reached}
+use Rattle.lisp_spec.proofs.CycleProofs.{is_same, cases, finds_reached}
 use Rattle.lisp_spec.proofs.NamesFound.{found_none, found_some, found_has}
 use Rattle.lisp_spec.proofs.FormsAgree.{AllBound}
 use Rattle.lisp_spec.proofs.Reading.{IsRead, read_atom, read_symbol, quotes_rest, quotes_one, templates, chooses, lists, operates, calls_inline, calls_function, AreOperands, read_none, read_more, IsTemplate, plain_atom, plain_symbol, unquotes, parts, is_read}
