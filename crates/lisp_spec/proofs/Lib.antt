@@ -23,6 +23,7 @@ pub mod FormMeaning
 pub mod FormMeaningProofs
 pub mod ModuleProofs
 pub mod ConstantProofs
+pub mod ConstantsOfModules
 pub mod NamesFound
 pub mod Widening
 pub mod FormsAgree

@@ -18,19 +18,10 @@ use Rattle.lisp_spec.specs.Constants.{met, result_value, named_value, expression
 use Rattle.lisp_spec.specs.Cycles.{reaches_itself}
 use Rattle.lisp_spec.specs.ExpressionWeights.{expression_weight, definition_weight}
 use Rattle.lisp_spec.specs.ModuleOf.{Draft, draft_of, draft_scope, forms_fault, draft_fault, cycle_fault, is_light, weights_fault, module_with, module_fault, module_of}
-use Rattle.lisp_spec.specs.ModuleLaws.{StandsFor, HasAnAnswer, IsBound, NamesAreBound, InlinesEnd, WeightsAreWithinTheLimit, ValuesAreWithinTheLimit}
+use Rattle.lisp_spec.specs.ModuleLaws.{StandsFor, IsBound, NamesAreBound, InlinesEnd, WeightsAreWithinTheLimit, ValuesAreWithinTheLimit}
 use Rattle.lisp_spec.specs.Modules.{definition_names, constant_names}
 use Rattle.std.specs.List.{AllByRecursion}
 pub use Rattle.lisp_spec.proofs.Reading.{then_ok, ok, ok_is, unless_ok, or_none, expect_none}
-
--- ---- answers
-
-answer : (judged : Judged Module) → ((m : Module) × (judged ≡ Ok m)) ⊎ ((f : Fault) × (judged ≡ Err f))
-answer (Ok m) = inl (m, refl)
-answer (Err f) = inr (f, refl)
-
-pub has_an_answer : HasAnAnswer
-has_an_answer texts text = answer (module_of text texts)
 
 -- ---- steps
 
