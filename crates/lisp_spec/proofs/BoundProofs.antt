@@ -6,10 +6,10 @@ use Rattle.lisp_spec.specs.Modules.{Module, Definition, Constant, constant_names
 use Rattle.lisp_spec.specs.Parameters.{parameters, parameter_names}
 use Rattle.lisp_spec.specs.Forms.{Form}
 use Rattle.lisp_spec.specs.ModuleFaults.{is_among}
-use Rattle.lisp_spec.specs.Scopes.{module_scope}
+use Rattle.lisp_spec.specs.Scopes.{body_of, module_scope}
 use Rattle.lisp_spec.specs.Environments.{function_environment}
 use Rattle.lisp_spec.proofs.FormEnvironments as forms
-use Rattle.lisp_spec.specs.Meaning.{body_of, body_meaning, meaning, meaning_within, module_meaning}
+use Rattle.lisp_spec.specs.Meaning.{body_meaning, meaning, meaning_within, module_meaning}
 use Rattle.lisp_spec.proofs.FormMeaning as meant
 use Rattle.lisp_spec.specs.ModuleLaws.{AreBound, with_more, NoNameIsWithoutMeaning}
 use Rattle.lisp_spec.proofs.Reading.{IsRead, is_read}

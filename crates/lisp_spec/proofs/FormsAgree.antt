@@ -14,12 +14,12 @@ use Rattle.lisp_spec.specs.Modules.{Module, Definition, definition_named, consta
 use Rattle.lisp_spec.specs.Parameters.{Side, ToFirst, ToRest, Parameter, parameters, parameter_names, tree_at}
 use Rattle.lisp_spec.specs.ModuleFaults.{is_among}
 use Rattle.lisp_spec.specs.Expressions.{Expression, Operation, Operands, NoMore, Operand, Template, Scope}
-use Rattle.lisp_spec.specs.Scopes.{module_scope, IsExpression}
+use Rattle.lisp_spec.specs.Scopes.{body_of, module_scope, IsExpression}
 use Rattle.lisp_spec.specs.ModuleLaws.{IsBound}
 use Rattle.lisp_spec.specs.OperandForms.{step_name, part_of_operand, expression_at}
 use Rattle.lisp_spec.specs.Environments.{Environment, Empty, Bound, Astray, Stands, Binding, ToTree, ToNoStep, ToExpression, ToNothing, binding_of, bound_to, trees_bound, function_environment, step_code, part_of, operand_at, standing, expressions_bound, inline_environment}
 use Rattle.lisp_spec.proofs.FormEnvironments as forms
-use Rattle.lisp_spec.specs.Meaning.{Meaning, Value, Failed, Wide, Out, Means, if_value, constant_meaning, name_meaning, body_of, body_meaning, function_call, inline_call, expression_meaning, operands_meaning, template_meaning, meaning_within}
+use Rattle.lisp_spec.specs.Meaning.{Meaning, Value, Failed, Wide, Out, Means, if_value, constant_meaning, name_meaning, body_meaning, function_call, inline_call, expression_meaning, operands_meaning, template_meaning, meaning_within}
 use Rattle.lisp_spec.proofs.FormMeaning as meant
 use Rattle.lisp_spec.proofs.Reading.{IsRead, read_atom, read_symbol, quotes_rest, quotes_one, templates, chooses, lists, operates, calls_inline, calls_function, AreOperands, read_none, read_more, IsTemplate, plain_atom, plain_symbol, unquotes, parts, is_read}
 use Rattle.lisp_spec.proofs.NamesFound.{found_none, found_some, found_has, among_behind, names_in, nothing_bound, bound_names, standing_names}

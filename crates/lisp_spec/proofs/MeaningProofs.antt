@@ -12,8 +12,9 @@ use Rattle.clvm_spec.proofs.Steps.{done_law, failures_law, wide_law}
 use Rattle.lisp_spec.specs.Modules.{Module, Definition, definition_named, constant_named}
 use Rattle.lisp_spec.specs.ModuleFaults.{Judged}
 use Rattle.lisp_spec.specs.Expressions.{Expression, Literal, Name, Choice, Listing, Operation, FunctionCall, InlineCall, Filled, Operands, NoMore, Operand, Template, Plain, Both, Unquoted}
+use Rattle.lisp_spec.specs.Scopes.{body_of}
 use Rattle.lisp_spec.specs.Environments.{Environment, Binding, ToTree, ToNoStep, ToExpression, ToNothing, binding_of, function_environment, inline_environment}
-use Rattle.lisp_spec.specs.Meaning.{Meaning, Value, Failed, Wide, Out, Means, if_value, operator_meaning, run_meaning, all_counts, run_values, operate, constant_meaning, name_meaning, body_of, body_meaning, function_call, inline_call, expression_meaning, operands_meaning, template_meaning, meaning_within, meaning}
+use Rattle.lisp_spec.specs.Meaning.{Meaning, Value, Failed, Wide, Out, Means, if_value, operator_meaning, run_meaning, all_counts, run_values, operate, constant_meaning, name_meaning, body_meaning, function_call, inline_call, expression_meaning, operands_meaning, template_meaning, meaning_within, meaning}
 use Rattle.lisp_spec.specs.MeaningLaws.{LargerCountKeepsValues, LargerCountKeepsFailures, LargerCountKeepsWide, CountsGiveTheSame}
 
 -- the same, or anything where the count didn't suffice

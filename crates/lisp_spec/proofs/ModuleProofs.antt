@@ -1,5 +1,5 @@
 -- What the stages of a module without fault say of it.
-use Rattle.std.proofs.Common.{◌≡◌, ℕ, ◌≤◌, ◌⊎◌, inl, inr, Bool, true, false, not, ◌&&◌, ◌||◌, cond, List, [], ◌∷◌, ◌++◌, map, filter, Option, Some, None, Ok, Err, refl, sym, ◌∙◌, ap, subst, arith, append_assoc, leb-true, nat_lt}
+use Rattle.std.proofs.Common.{◌≡◌, ℕ, ◌≤◌, Bool, true, false, not, ◌&&◌, ◌||◌, cond, List, [], ◌∷◌, ◌++◌, map, filter, Option, Some, None, Ok, Err, refl, sym, ◌∙◌, ap, subst, arith, append_assoc, leb-true, nat_lt}
 use Rattle.std.proofs.lemmas.List.{append-nil, map-append}
 use Rattle.clvm_spec.specs.Tree.{Tree, list_tree}
 use Rattle.clvm_spec.specs.Outcomes.{Applied, Gives, Fails, TooWide}
@@ -8,7 +8,7 @@ use Rattle.clvm_spec.specs.OperatorTable.{applied}
 use Rattle.lisp_spec.specs.Forms.{Form, Place}
 use Rattle.lisp_spec.specs.Modules.{Definition, Constant, Module, constant_named}
 use Rattle.lisp_spec.specs.Weights.{tree_weight, weight_limit}
-use Rattle.lisp_spec.specs.ModuleFaults.{InlineCycle, TooLarge, Fault, fault, Judged, ◌or◌, unless, expect, fault_of}
+use Rattle.lisp_spec.specs.ModuleFaults.{InlineCycle, TooLarge, fault, Judged, ◌or◌, unless, expect, fault_of}
 use Rattle.lisp_spec.specs.Definitions as roles
 use Rattle.lisp_spec.specs.Definitions.{Role, Function, Inline, Macro, Written, is_role, names_of, constants_in, macros_in, without_macros, functions_in, inlines_in, definition}
 use Rattle.lisp_spec.specs.Inclusion.{Texts, Parts, parts_of_text, definitions_of}
@@ -17,20 +17,11 @@ use Rattle.lisp_spec.specs.Scopes.{constant_scope, body_scope, IsExpression}
 use Rattle.lisp_spec.specs.Constants.{met, result_value, named_value, expression_value, operand_values, template_value, constant_value, with_constant, constants_after}
 use Rattle.lisp_spec.specs.Cycles.{reaches_itself}
 use Rattle.lisp_spec.specs.ExpressionWeights.{expression_weight, definition_weight}
-use Rattle.lisp_spec.specs.ModuleOf.{Draft, draft_of, draft_scope, forms_fault, draft_fault, cycle_fault, is_light, weights_fault, module_with, module_fault, module_of}
-use Rattle.lisp_spec.specs.ModuleLaws.{StandsFor, HasAnAnswer, IsBound, NamesAreBound, InlinesEnd, WeightsAreWithinTheLimit, ValuesAreWithinTheLimit}
+use Rattle.lisp_spec.specs.ModuleOf.{Draft, draft_of, draft_scope, forms_fault, draft_fault, cycle_fault, is_light, weights_fault, module_with, module_fault}
+use Rattle.lisp_spec.specs.ModuleLaws.{StandsFor, IsBound, NamesAreBound, InlinesEnd, WeightsAreWithinTheLimit, ValuesAreWithinTheLimit}
 use Rattle.lisp_spec.specs.Modules.{definition_names, constant_names}
 use Rattle.std.specs.List.{AllByRecursion}
 pub use Rattle.lisp_spec.proofs.Reading.{then_ok, ok, ok_is, unless_ok, or_none, expect_none}
-
--- ---- answers
-
-answer : (judged : Judged Module) → ((m : Module) × (judged ≡ Ok m)) ⊎ ((f : Fault) × (judged ≡ Err f))
-answer (Ok m) = inl (m, refl)
-answer (Err f) = inr (f, refl)
-
-pub has_an_answer : HasAnAnswer
-has_an_answer texts text = answer (module_of text texts)
 
 -- ---- steps
 
@@ -185,20 +176,20 @@ either_one : (a b : Bool) → (a || b) ≡ true → a ≡ false → b ≡ true
 either_one true b e h = absurd cc
 either_one false b e h = e
 
-no_cycles : (inlines : List Definition) (definitions : List Written) → cycle_fault inlines definitions ≡ None →
-    AllByRecursion (λ d. is_role Inline d.role ≡ true → reaches_itself inlines d.name ≡ false) definitions
-no_cycles inlines [] e = tt
-no_cycles inlines (d ∷ definitions) e =
-    let h = or_none (expect (not (is_role Inline d.role && reaches_itself inlines d.name)) InlineCycle d.place) (cycle_fault inlines definitions) e in
-    (not_both (is_role Inline d.role) (reaches_itself inlines d.name) (expect_none _ _ _ h.0), no_cycles inlines definitions h.1)
+no_cycles : (m : Module) (definitions : List Written) → cycle_fault m definitions ≡ None →
+    AllByRecursion (λ d. is_role Inline d.role ≡ true → reaches_itself m d.name ≡ false) definitions
+no_cycles m [] e = tt
+no_cycles m (d ∷ definitions) e =
+    let h = or_none (expect (not (is_role Inline d.role && reaches_itself m d.name)) InlineCycle d.place) (cycle_fault m definitions) e in
+    (not_both (is_role Inline d.role) (reaches_itself m d.name) (expect_none _ _ _ h.0), no_cycles m definitions h.1)
 
 pub inlines_end : InlinesEnd
 inlines_end texts text m e =
     let s = stages texts text m e in
     let made = module_with s.draft s.constants in
-    let h = or_none (cycle_fault made.inlines s.draft.definitions) _ s.ends in
-    subst (λ m. AllByRecursion (λ d. reaches_itself m.inlines d.name ≡ false) m.inlines) s.is
-    (of_inlines (λ d. reaches_itself made.inlines d.name ≡ false) s.draft.definitions (no_cycles made.inlines s.draft.definitions h.0))
+    let h = or_none (cycle_fault made s.draft.definitions) _ s.ends in
+    subst (λ m. AllByRecursion (λ d. reaches_itself m d.name ≡ false) m.inlines) s.is
+    (of_inlines (λ d. reaches_itself made d.name ≡ false) s.draft.definitions (no_cycles made s.draft.definitions h.0))
 
 light_bodies : (m : Module) (definitions : List Written) → weights_fault m definitions ≡ None →
     AllByRecursion (NoConstant (λ d. definition_weight m (definition d) ≤ weight_limit)) definitions
@@ -211,7 +202,7 @@ pub weights_are_within_the_limit : WeightsAreWithinTheLimit
 weights_are_within_the_limit texts text m e =
     let s = stages texts text m e in
     let made = module_with s.draft s.constants in
-    let h = or_none (cycle_fault made.inlines s.draft.definitions) _ s.ends in
+    let h = or_none (cycle_fault made s.draft.definitions) _ s.ends in
     let w = or_none (weights_fault made s.draft.definitions) (expect (is_light made made.params made.body) TooLarge s.draft.body_place) h.1 in
     let bodies = light_bodies made s.draft.definitions w.0 in
     subst (λ m. AllByRecursion (λ d. definition_weight m d ≤ weight_limit) m.functions × AllByRecursion (λ d. definition_weight m d ≤ weight_limit) m.inlines

@@ -8,11 +8,10 @@ use Rattle.clvm_spec.specs.Outcomes.{Applied, Gives, Fails, TooWide, Outcome}
 use Rattle.clvm_spec.specs.Operators.{is_nil}
 use Rattle.clvm_spec.specs.OperatorTable.{applied}
 use Rattle.clvm_spec.specs.Evaluation.{run_outcome}
-use Rattle.lisp_spec.specs.Forms.{Form}
 use Rattle.lisp_spec.specs.Modules.{Module, Definition, Constant, definition_named, constant_named}
 use Rattle.lisp_spec.specs.ModuleFaults.{Judged}
-use Rattle.lisp_spec.specs.Expressions.{Expression, Literal, Name, Choice, Listing, Operation, FunctionCall, InlineCall, Filled, Operands, NoMore, Operand, Template, Plain, Both, Unquoted, expression_of}
-use Rattle.lisp_spec.specs.Scopes.{module_scope}
+use Rattle.lisp_spec.specs.Expressions.{Expression, Literal, Name, Choice, Listing, Operation, FunctionCall, InlineCall, Filled, Operands, NoMore, Operand, Template, Plain, Both, Unquoted}
+use Rattle.lisp_spec.specs.Scopes.{body_of}
 use Rattle.lisp_spec.specs.Environments.{Environment, Binding, ToTree, ToNoStep, ToExpression, ToNothing, binding_of, function_environment, inline_environment}
 
 -- How the evaluation of an expression ends, where calls nest no deeper than a count.
@@ -77,10 +76,7 @@ name_meaning source further name ToNothing = constant_meaning (constant_named na
 
 -- ---- bodies
 
--- what a body is read as. Each body of a module without fault is an expression.
-abbrev pub body_of : Module → (params body : Form) → Judged Expression
-body_of source params body = expression_of body (module_scope source params)
-
+-- Each body of a module without fault is an expression.
 abbrev pub body_meaning : Means → Judged Expression → Environment → Meaning
 body_meaning further (Ok e) env = further e env
 body_meaning further (Err first) env = Failed

@@ -1,5 +1,5 @@
 -- What holds of the module that a text stands for: laws of the definitions, each proved once for the crates above.
-use Rattle.std.specs.Prelude.{◌≡◌, ℕ, ◌≤◌, ◌⊎◌, false, List, [], ◌∷◌, ◌++◌, Ok, Err}
+use Rattle.std.specs.Prelude.{◌≡◌, ℕ, ◌≤◌, false, List, [], ◌∷◌, ◌++◌, Ok}
 use Rattle.std.specs.List.{AllByRecursion}
 use Rattle.clvm_spec.specs.Tree.{Tree}
 use Rattle.lisp_spec.specs.Forms.{Form}
@@ -7,7 +7,7 @@ use Rattle.lisp_spec.specs.Heads.{is_reserved}
 use Rattle.lisp_spec.specs.Modules.{Definition, Constant, Module, definition_names, constant_names}
 use Rattle.lisp_spec.specs.Parameters.{parameter_names}
 use Rattle.lisp_spec.specs.Weights.{tree_weight, weight_limit}
-use Rattle.lisp_spec.specs.ModuleFaults.{Fault, is_among}
+use Rattle.lisp_spec.specs.ModuleFaults.{is_among}
 use Rattle.lisp_spec.specs.Inclusion.{Texts}
 use Rattle.lisp_spec.specs.Expressions.{Expression}
 use Rattle.lisp_spec.specs.Scopes.{module_scope, IsExpression}
@@ -19,24 +19,6 @@ use Rattle.lisp_spec.specs.ModuleOf.{module_of}
 -- A text, with these library texts, stands for this module.
 abbrev pub StandsFor : Texts → List ℕ → Module → Type 0
 StandsFor texts text m = module_of text texts ≡ Ok m
-
--- This is the first fault of a text.
-abbrev pub HasFirstFault : Texts → List ℕ → Fault → Type 0
-HasFirstFault texts text f = module_of text texts ≡ Err f
-
--- ---- one text has one answer
-
-abbrev pub HasAnAnswer : Type 0
-HasAnAnswer = (texts : Texts) (text : List ℕ) → ((m : Module) × StandsFor texts text m) ⊎ ((f : Fault) × HasFirstFault texts text f)
-
-abbrev pub HasOneModule : Type 0
-HasOneModule = (texts : Texts) (text : List ℕ) (m n : Module) → StandsFor texts text m → StandsFor texts text n → m ≡ n
-
-abbrev pub HasOneFault : Type 0
-HasOneFault = (texts : Texts) (text : List ℕ) (f g : Fault) → HasFirstFault texts text f → HasFirstFault texts text g → f ≡ g
-
-abbrev pub HasNotBoth : Type 0
-HasNotBoth = (texts : Texts) (text : List ℕ) (m : Module) (f : Fault) → StandsFor texts text m → ¬ HasFirstFault texts text f
 
 -- ---- a module without fault
 
@@ -74,7 +56,7 @@ DefinitionsAreNamed = (texts : Texts) (text : List ℕ) (m : Module) → StandsF
 
 abbrev pub InlinesEnd : Type 0
 InlinesEnd = (texts : Texts) (text : List ℕ) (m : Module) → StandsFor texts text m →
-    AllByRecursion (λ d. reaches_itself m.inlines d.name ≡ false) m.inlines
+    AllByRecursion (λ d. reaches_itself m d.name ≡ false) m.inlines
 
 abbrev pub WeightsAreWithinTheLimit : Type 0
 WeightsAreWithinTheLimit = (texts : Texts) (text : List ℕ) (m : Module) → StandsFor texts text m →

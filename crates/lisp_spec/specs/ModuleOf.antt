@@ -2,7 +2,7 @@
 -- the limits are this project's own.
 use Rattle.std.specs.Prelude.{ℕ, Bool, ◌&&◌, ◌||◌, List, [], ◌∷◌, ◌++◌, map, Option, None, Ok, Err, nat_le, not, if◌then◌else◌}
 use Rattle.lisp_spec.specs.Forms.{Form, Place, place_of_form}
-use Rattle.lisp_spec.specs.Modules.{Definition, Constant, Module, definition_names}
+use Rattle.lisp_spec.specs.Modules.{Constant, Module, definition_names}
 use Rattle.lisp_spec.specs.Weights.{weight_limit}
 use Rattle.lisp_spec.specs.Macros as macros
 use Rattle.lisp_spec.specs.Macros.{Macro, MacroFault, turns_of_a_module}
@@ -91,10 +91,10 @@ module_with draft constants = record {
 }
 
 -- the first inline that reaches itself
-abbrev pub cycle_fault : List Definition → List Written → Option Fault
-cycle_fault inlines [] = None
-cycle_fault inlines (d ∷ definitions) =
-    expect (not (is_role Inline d.role && reaches_itself inlines d.name)) InlineCycle d.place or cycle_fault inlines definitions
+abbrev pub cycle_fault : Module → List Written → Option Fault
+cycle_fault m [] = None
+cycle_fault m (d ∷ definitions) =
+    expect (not (is_role Inline d.role && reaches_itself m d.name)) InlineCycle d.place or cycle_fault m definitions
 
 -- An expression is within the limit of weights.
 abbrev pub is_light : Module → Form → Form → Bool
@@ -109,7 +109,7 @@ weights_fault m (d ∷ definitions) =
 -- then the body, at the place where its text begins
 abbrev pub module_fault : Draft → Module → Option Fault
 module_fault draft m =
-    cycle_fault m.inlines draft.definitions
+    cycle_fault m draft.definitions
     or weights_fault m draft.definitions
     or expect (is_light m m.params m.body) TooLarge draft.body_place
 

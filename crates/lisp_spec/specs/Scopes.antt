@@ -3,6 +3,7 @@ use Rattle.std.specs.Prelude.{◌≡◌, ℕ, List, [], ◌++◌, true, false, O
 use Rattle.lisp_spec.specs.Forms.{Form}
 use Rattle.lisp_spec.specs.Modules.{Module, definition_names, constant_names}
 use Rattle.lisp_spec.specs.Parameters.{parameter_names}
+use Rattle.lisp_spec.specs.ModuleFaults.{Judged}
 use Rattle.lisp_spec.specs.Expressions.{Expression, Scope, expression_of}
 
 -- In a constant earlier constants may be named, and `a` may not be a head.
@@ -21,3 +22,7 @@ module_scope m params = body_scope (constant_names m.constants) (definition_name
 -- In this scope a form is this expression.
 abbrev pub IsExpression : Scope → Form → Expression → Type 0
 IsExpression scope f e = expression_of f scope ≡ Ok e
+
+-- What a body is read as. Each body of a module without fault is an expression.
+abbrev pub body_of : Module → (params body : Form) → Judged Expression
+body_of m params body = expression_of body (module_scope m params)
