@@ -5,3 +5,4 @@ mod CoinTurns
 mod SessionLaws
 pub mod Histories
 pub mod Endings
+pub mod FirstWords

@@ -81,10 +81,7 @@ pub fn run_tool<S: Source, K: Sink, B: Library>(
     ensures library_texts { Stays (B.texts _library.old) (B.texts _library.new) }
     ensures library_later { B.faults _library.old ≤ B.faults _library.new }
 {
-    match command(alloc, words) {
-        Ok(command) => run_command(alloc, command, source, sink),
-        Err(fault) => end_with(sink, Stop::from(fault)),
-    }
+    run_words(alloc, words, source, sink)
 }
 
 /// Plays the session that the source has, and writes the output of one history of it.
@@ -147,6 +144,25 @@ fn run_session_words<S: Source, K: Sink, B: Library, G: Gate>(
     match command(alloc, words) {
         Ok(Command::Session) => run_session(alloc, source, sink, library, gate),
         Ok(_) => unreachable!(),
+        Err(fault) => end_with(sink, Stop::from(fault)),
+    }
+}
+
+fn run_words<S: Source, K: Sink>(
+    alloc: Global,
+    words: &[String],
+    source: &mut S,
+    sink: &mut K,
+) -> u8
+    ensures headline { Ends (said words.now)
+        (reading (S.left source.old) (S.left source.new) (S.faults source.old) (S.faults source.new))
+        (writing (K.got sink.old) (K.got sink.new) (K.faults sink.old) (K.faults sink.new)) result }
+    ensures unread { said words.now ≡ None → source.new ≡ source.old }
+    ensures source_later { S.faults source.old ≤ S.faults source.new }
+    ensures sink_later { K.faults sink.old ≤ K.faults sink.new }
+{
+    match command(alloc, words) {
+        Ok(command) => run_command(alloc, command, source, sink),
         Err(fault) => end_with(sink, Stop::from(fault)),
     }
 }
