@@ -37,7 +37,7 @@ connected-is-sound chain block sound can = (sound.0, follow-one (start_ledger ch
 sound-start : (chain : Chain) (blocks : List Connected) → blocks ≡ [] → chain.blocks ≡ blocks → HasDistinctIds chain.coins → IsSound chain
 sound-start chain blocks none are distinct = (distinct, subst (CanFollow (start_ledger chain)) (sym (are ∙ none)) tt)
 
-alone : (id : Hash32) → IsDistinct is_same_id (id ∷ [])
+pub alone : (id : Hash32) → IsDistinct is_same_id (id ∷ [])
 unfolding IsDistinct
 alone id = (tt, tt)
 

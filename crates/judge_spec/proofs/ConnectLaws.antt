@@ -15,7 +15,7 @@ use Rattle.chain_spec.specs.declared.chain.Peak.{Peak}
 use Rattle.chain_spec.specs.Chain.{Ledger, look_up, is_in_chain, ledger_of}
 use Rattle.chain_spec.specs.Soundness.{HasDistinctIds, is_unspent, is_spendable}
 use Rattle.chain_spec.proofs.DistinctLaws.{distinct-append}
-use Rattle.chain_spec.proofs.MoveLaws.{connected-is-sound}
+use Rattle.chain_spec.proofs.MoveLaws.{alone, connected-is-sound}
 use Rattle.cond_spec.specs.Acts.{spent_ids, created_coins, created_ids}
 use Rattle.judge_spec.specs.declared.rule.Rule.TheVariants.{NotNext, NotLater}
 use Rattle.judge_spec.specs.Facts.{acts_of}
@@ -33,10 +33,6 @@ use Rattle.judge_spec.proofs.FineCoins.{fine-is-spendable}
 record AreNew (ledger : Ledger) (coins : List Coin) : Type 0 where
   once : HasDistinctIds coins
   new : list_all (λ id. not (is_in_chain ledger id)) (map coin_id coins) ≡ true
-
-alone : (id : Hash32) → IsDistinct is_same_id (id ∷ [])
-unfolding IsDistinct
-alone id = (tt, tt)
 
 new-one : (ledger : Ledger) (coins : List Coin) (coin : Coin) → AreNew ledger coins → (is_in_chain ledger (coin_id coin) || is_among (map coin_id coins) (coin_id coin)) ≡ false → AreNew ledger (coins ++ coin ∷ [])
 new-one ledger coins coin are absent =

@@ -10,6 +10,7 @@ use Rattle.coin_facts.specs.CoinId.{coin_id}
 use Rattle.coin_facts.specs.IdLists.{is_among}
 use Rattle.chain_spec.specs.Chain.{Ledger, look_up, is_in_chain}
 use Rattle.chain_spec.specs.Looks.{part_of}
+use Rattle.chain_spec.proofs.DistinctLaws.{all-append}
 use Rattle.chain_spec.proofs.LookLaws.{suffices-ids}
 use Rattle.cond_spec.specs.declared.condition.Condition.{Condition}
 use Rattle.cond_spec.specs.declared.condition.Condition.TheVariants.{AssertSecondsRelative, AssertSecondsAbsolute, AssertHeightRelative, AssertHeightAbsolute, AssertBeforeSecondsRelative, AssertBeforeSecondsAbsolute, AssertBeforeHeightRelative, AssertBeforeHeightAbsolute}
@@ -19,10 +20,6 @@ use Rattle.judge_spec.specs.Facts.{acts_of}
 use Rattle.judge_spec.specs.Locked.{now, born, holds_from, is_reached, is_ahead}
 use Rattle.judge_spec.specs.Agreement.{RecordsAgree, PartDecides}
 use Rattle.judge_spec.proofs.AgreementLaws.{looks-at-its-coins}
-
-all-both : {A : Type 0} (P : A → Type 0) (xs ys : List A) → AllByRecursion P xs → AllByRecursion P ys → AllByRecursion P (xs ++ ys)
-all-both P [] ys a b = b
-all-both P (x ∷ xs) ys a b = (a.0, all-both P xs ys a.1 b)
 
 module _ (ledger other : Ledger) (peak : ledger.peak ≡ other.peak) where
   abbrev Same : Hash32 → Type 0
@@ -64,13 +61,13 @@ module _ (ledger other : Ledger) (peak : ledger.peak ≡ other.peak) where
       → (conditions : List Condition) → AllByRecursion P (flat_map (given coin) conditions)
   of-conditions P given coin each [] = tt
   of-conditions P given coin each (condition ∷ conditions) =
-      all-both P (given coin condition) (flat_map (given coin) conditions) (each condition) (of-conditions P given coin each conditions)
+      all-append P (given coin condition) (flat_map (given coin) conditions) (each condition) (of-conditions P given coin each conditions)
 
   of-acts : (P : Lock → Type 0) (given : Coin → Condition → List Lock) → ((coin : Coin) (condition : Condition) → Same (coin_id coin) → AllByRecursion P (given coin condition))
       → (list : List Acts) → AllByRecursion Same (spent_ids list) → AllByRecursion P (of_list given list)
   of-acts P given each [] all = tt
   of-acts P given each (acts ∷ list) all =
-      all-both P (of_spend given acts) (of_list given list) (of-conditions P given acts.coin (λ condition. each acts.coin condition all.0) acts.conditions) (of-acts P given each list all.1)
+      all-append P (of_spend given acts) (of_list given list) (of-conditions P given acts.coin (λ condition. each acts.coin condition all.0) acts.conditions) (of-acts P given each list all.1)
 
   there-too : (ids : List Hash32) → AllByRecursion Same ids → AllByRecursion (λ id. is_in_chain ledger id ≡ is_in_chain other id) ids
   there-too [] all = tt

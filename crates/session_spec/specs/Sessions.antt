@@ -26,7 +26,7 @@ use Rattle.session_spec.specs.declared.member.Member.TheVariants as member
 use Rattle.session_spec.specs.MemberNames.{name_of}
 use Rattle.session_spec.specs.LineFaults.{What, OutOfOrder, Missing, NameTwice, CoinTwice, InModule, TooLarge, TooMany}
 use Rattle.session_spec.specs.Results.{◌>>=◌, unless}
-use Rattle.session_spec.specs.Values.{number_between, whole_number, bytes_of_hash, module_name}
+use Rattle.session_spec.specs.Values.{is_text, number_between, whole_number, bytes_of_hash, module_name}
 use Rattle.session_spec.specs.LineMembers.{Compiled, module_named, plain, code_value, code_values, hash_value, required, optional}
 use Rattle.session_spec.specs.BundleMembers.{coin_member}
 use Rattle.session_spec.specs.CommandLines.{command_in}
@@ -220,10 +220,6 @@ pub record IsFaulty (texts : Texts) (input : List ℕ) (faulty : Faulty) : Type 
   pub compiled : AreCompiled faulty.modules
 
 -- ---- replays
-
-abbrev pub is_text : List ℕ → Option (List ℕ) → Bool
-is_text word None = false
-is_text word (Some text) = bytes_eq text word
 
 abbrev pub does_block : Data → Bool
 does_block fields = is_text (codes "block") (option_and_then as_str (get (name_of member.Do) fields))
