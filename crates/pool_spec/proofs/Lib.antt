@@ -9,3 +9,4 @@ mod RateRows
 pub mod ReplacedLaws
 pub mod RowParts
 mod ShapeRows
+mod SingletonRows

@@ -59,6 +59,10 @@ all-priced limits ledger (bundle ∷ bundles) all =
     ap (λ found. bundles_of (cons_option (if_found found) (filter_map (λ bundle. if_found (priced limits ledger bundle)) bundles))) all.0.1
     ∙ (λ j. (priced-is-fine limits ledger bundle item all.0.1).itself j ∷ all-priced limits ledger bundles all.1 j)
 
+entered-as : (state : PoolState) (rest stays : List Priced) (new : Priced) (bundle : Bundle) → rest ≡ stays → new.bundle ≡ bundle
+    → entered state stays new ≡ record state { bundles = bundles_of rest ++ bundle ∷ [] }
+entered-as state rest stays new bundle same is = λ j. record state { bundles = bundles_of (sym same j) ++ is j ∷ [] }
+
 pub replaced-are-others : ReplacedAreOthers
 unfolding admission
 replaced-are-others state bundle told next all e =
@@ -83,7 +87,7 @@ replaced-are-others state bundle told next all e =
       rest = bundles_of (kept_by new items);
       told_ids = ap (λ view. view.replaced) (sym same.0);
       told_id = ap (λ view. view.id) (sym same.0) ∙ ap bundle_id bundle_is;
-      after = sym same.1 ∙ ap (λ list. record state { bundles = bundles_of list ++ new.bundle ∷ [] }) (sym rest) ∙ ap (λ last. record state { bundles = bundles_of (kept_by new items) ++ last ∷ [] }) bundle_is;
+      after = sym same.1 ∙ entered-as state (kept_by new items) room.0 new bundle rest bundle_is;
       others = subst (IsMerged (bundles_of (replaced_by new items)) (bundles_of (kept_by new items))) (all-priced state.limits ledger state.bundles all) (merged (do_conflict new) items);
     }
 
