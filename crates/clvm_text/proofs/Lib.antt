@@ -1,4 +1,4 @@
 pub mod PrintLaws
-pub mod FrameLaws
+pub mod FormLaws
 pub mod StepLaws
 pub mod ScanningLaws

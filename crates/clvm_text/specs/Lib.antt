@@ -1,5 +1,5 @@
 pub mod Positions
-pub mod Leaves
 pub mod Forms
-pub mod Frames
+pub mod Codes
+pub mod Parsing
 pub mod Scans

@@ -4,8 +4,9 @@
 ghost use Rattle.std.specs.Prelude.{◌≡◌};
 ghost use Rattle.clvm_text.specs.declared.TextFault.TheVariants as text_fault;
 
-mod frames;
+mod form;
 mod printer;
+mod reader;
 mod scanner;
 
 use clvm_tree::OutOfMemory;

@@ -3,24 +3,37 @@
 ghost use Rattle.std.specs.Prelude.{◌≡◌, ◌+◌, ◌*◌, ◌<◌, ◌≤◌, ◌^◌, length, IfOk, IfErr, OnOk};
 ghost use Rattle.clvm_spec.specs.declared.limits.TheConstants.{MOST_SPELLED};
 ghost use Rattle.clvm_spec.specs.Places.{place_of};
-ghost use Rattle.clvm_spec.specs.Text.{form_of, Scans, scanned};
+ghost use Rattle.clvm_spec.specs.Text.{Scans, scanned};
 ghost use Rattle.clvm_tree.specs.Nodes.{tree_at, IsKnown, Grows};
-ghost use Rattle.clvm_text.specs.Frames.{IsBroken};
-ghost use Rattle.clvm_text.specs.Scans.{IsFormAt, IsTextFault};
+ghost use Rattle.clvm_text.specs.Scans.{IsFormAt, IsFormFault, IsTextFault, answered};
 
 use crate::TextFault;
-use crate::frames::{Form, Mode, Step, advance, fault};
+use crate::form::{Form, Meant};
+use crate::reader::{Lists, step};
 use clvm_tree::{Node, Trees};
+use open_lists::Fault;
+use small_lists::ByteList;
 use std::alloc::Global;
 use text_tokens::{Front, ScanKind, first_token};
 
 // The place of the end of a text.
 fn place_of(text: &[u8], end: &[u8]) -> u32
-    requires within { length end.now ≤ length text.now }
     requires short { length text.now ≤ MOST_SPELLED }
     ensures { result ≡ place_of text.now end.now }
 {
-    (text.len() - end.len()) as u32
+    text.len().saturating_sub(end.len()) as u32
+}
+
+// The answer to a fault of a text, with its place.
+fn answered(text: &[u8], fault: Fault<&[u8]>) -> TextFault
+    requires short { length text.now ≤ MOST_SPELLED }
+    ensures { result ≡ answered text.now fault.entry }
+{
+    match fault {
+        Fault::At(kind, from) => TextFault::Read(kind, place_of(text, from)),
+        Fault::Unknown(from) => TextFault::Name(place_of(text, from)),
+        Fault::OutOfMemory => TextFault::OutOfMemory,
+    }
 }
 
 // The first form of a text, and the text behind it.
@@ -28,34 +41,32 @@ fn first_form<'a>(
     alloc: Global,
     trees: &mut Trees,
     text: &'a [u8],
-) -> Result<(Form, &'a [u8]), TextFault>
-    requires short { length text.now ≤ MOST_SPELLED }
+) -> Result<(Form<'a>, &'a [u8]), Fault<&'a [u8]>>
     requires fits { length trees.old + 2 * length text.now + 1 < 2 ^ 31 }
     ensures grows { Grows trees.old trees.new }
     ensures few { OnOk result (length trees.new ≤ length trees.old + 2 * length text.now) }
     ensures found { IfOk result (λ found. IsFormAt trees.new text.now found.0 found.1.now) }
-    ensures broken { IfErr result (λ fault. IsBroken (length text.now) text.now fault (form_of text.now)) }
+    ensures broken { IfErr result (IsFormFault trees.new text.now) }
 {
-    let mut frames = Vec::new(alloc);
-    let mut mode = Mode::Form(0);
+    let mut lists: Lists<'a> = Lists::new(alloc);
     let mut rest = text;
     'tokens: loop {
-        let (token, from, after) = match first_token(rest) {
-            Front::Took { token, from, rest } => (token, from, rest),
+        match first_token(rest) {
+            Front::AtEnd => return Err(lists.fault::<Meant, ByteList>(ScanKind::End, &[])),
             Front::Unread { kind, from } => {
-                return Err(fault(frames.as_slice(), mode, kind, place_of(text, from)));
+                return Err(lists.fault::<Meant, ByteList>(kind, from));
             }
-            Front::AtEnd => {
-                return Err(fault(frames.as_slice(), mode, ScanKind::End, text.len() as u32));
+            Front::Took {
+                token,
+                from,
+                rest: behind,
+            } => {
+                if let Some(form) = step(alloc, trees, &mut lists, token, from)? {
+                    return Ok((form, behind));
+                }
+                rest = behind;
             }
-        };
-        let place = place_of(text, from);
-        match advance(alloc, trees, &mut frames, mode, token, place) {
-            Ok(Step::Done(form)) => return Ok((form, after)),
-            Ok(Step::Goes(next)) => mode = next,
-            Err(fault) => return Err(fault),
         }
-        rest = after;
     }
 }
 
@@ -72,10 +83,13 @@ pub fn scan(alloc: Global, trees: &mut Trees, text: &str) -> Result<Node, TextFa
     ensures fault { IfErr result (IsTextFault text.now) }
 {
     let bytes = text.as_bytes();
-    let (form, rest) = first_form(alloc, trees, bytes)?;
+    let (form, rest) = match first_form(alloc, trees, bytes) {
+        Ok(found) => found,
+        Err(fault) => return Err(answered(bytes, fault)),
+    };
     let tree = match form {
         Form::Tree(tree) => tree,
-        Form::Unknown(place) => return Err(TextFault::Name(place)),
+        Form::Unknown(from) => return Err(TextFault::Name(place_of(bytes, from))),
     };
     match first_token(rest) {
         Front::AtEnd => Ok(tree),

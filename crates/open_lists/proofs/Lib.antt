@@ -1,3 +1,4 @@
 pub mod FaultLaws
 pub mod ListLaws
 pub mod StepLaws
+pub mod HeldLaws

@@ -1,5 +1,6 @@
 pub mod Readings
 pub mod Reaches
 pub mod Lists
+pub mod Held
 pub mod Faults
 pub mod Steps

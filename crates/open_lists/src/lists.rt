@@ -5,6 +5,7 @@ ghost use Rattle.clvm_spec.specs.Tokens.{Opening, Closing, Point};
 ghost use Rattle.clvm_spec.specs.Grammar.{Breaks, most_open};
 ghost use Rattle.open_lists.specs.Readings.{Reading};
 ghost use Rattle.open_lists.specs.Lists.{resumed};
+ghost use Rattle.open_lists.specs.Held.{forms_held, held, handed};
 ghost use Rattle.open_lists.specs.Faults.{IsFirstFault};
 ghost use Rattle.open_lists.specs.Steps.{Takes, Stops, Closes, Puts, PutStops, IsUnread};
 
@@ -79,6 +80,7 @@ impl<P: Copy + Drop, F: TextForm<P>> OpenLists<F, P> {
     pub fn put<M, Q>(&mut self, form: F, place: P) -> Result<Option<F>, Fault<P>>
         ensures leads { IfOk result (Puts M Q F.unknown form self.old.lists.items self.new.lists.items) }
         ensures stops { IfErr result (PutStops M Q F.unknown form self.old.lists.items) }
+        ensures holds { IfOk result (λ done. held self.new.lists.items ++ handed done ≡ held self.old.lists.items ++ form ∷ []) }
     {
         match self.lists.pop() {
             None => Ok(Some(form)),
@@ -100,6 +102,7 @@ impl<P: Copy + Drop, F: TextForm<P>> OpenLists<F, P> {
     pub fn open<M, Q>(&mut self, alloc: Global, place: P) -> Result<(), Fault<P>>
         ensures takes { IfOk result (λ _. Takes M Q F.unknown Opening place self.old.lists.items self.new.lists.items) }
         ensures stops { IfErr result (Stops M Q F.unknown Opening place self.old.lists.items) }
+        ensures holds { IfOk result (λ _. held self.new.lists.items ≡ held self.old.lists.items) }
     {
         let begun = OpenList::new(alloc, place);
         match self.lists.pop() {
@@ -126,6 +129,7 @@ impl<P: Copy + Drop, F: TextForm<P>> OpenLists<F, P> {
     pub fn point<M, Q>(&mut self, place: P) -> Result<(), Fault<P>>
         ensures takes { IfOk result (λ _. Takes M Q F.unknown Point place self.old.lists.items self.new.lists.items) }
         ensures stops { IfErr result (Stops M Q F.unknown Point place self.old.lists.items) }
+        ensures holds { IfOk result (λ _. held self.new.lists.items ≡ held self.old.lists.items) }
     {
         match self.lists.pop() {
             None => Err(Fault::At(ScanKind::Dot, place)),
@@ -144,6 +148,7 @@ impl<P: Copy + Drop, F: TextForm<P>> OpenLists<F, P> {
     pub fn close<M, Q>(&mut self, place: P) -> Result<OpenList<F, P>, Fault<P>>
         ensures closes { IfOk result (Closes M Q F.unknown place self.old.lists.items self.new.lists.items) }
         ensures stops { IfErr result (Stops M Q F.unknown Closing place self.old.lists.items) }
+        ensures holds { IfOk result (λ list. held self.old.lists.items ≡ held self.new.lists.items ++ forms_held list) }
     {
         match self.lists.pop() {
             None => Err(Fault::At(ScanKind::Close, place)),

@@ -3,6 +3,7 @@ use Rattle.clvm_spec.specs.declared.scan_kind.ScanKind.TheVariants as kind
 use Rattle.clvm_spec.specs.Tokens.{Closing, Took}
 use Rattle.open_lists.specs.Lists.{whole}
 use Rattle.open_lists.proofs.ListLaws.{refuses_closing, ends_in}
+use Rattle.open_lists.proofs.HeldLaws.{held_last}
 use Rattle.open_lists.proofs.StepLaws.{told_breaks, end_leads}
 use Rattle.open_lists.proofs.lists.OpenLists.close.Goals as goal
 
@@ -18,3 +19,6 @@ returns-else-not-takes_end-clause-closes g c = λ r from rest e.
     let list = c.in-Some.list in
     end_leads r c.args.self.now.lists.items c.pop.new.self.items list c.in-Some.ensures.items (whole r list) from rest
     (ends_in r _ list from rest (sym c.takes_end.ensures ∙ c.if-not-takes_end.false))
+
+pub returns-else-not-takes_end-clause-holds : goal.returns-else-not-takes_end-clause-holds
+returns-else-not-takes_end-clause-holds g c = held_last c.args.self.now.lists.items c.pop.new.self.items c.in-Some.list c.in-Some.ensures.items

@@ -1,6 +1,8 @@
 use Rattle.std.proofs.Common.{rules, length, arith, sym, ◌∙◌, ap}
 use Rattle.clvm_spec.specs.declared.scan_kind.ScanKind.TheVariants as kind
 use Rattle.clvm_spec.specs.Tokens.{Opening, Took}
+use Rattle.open_lists.specs.Held.{held}
+use Rattle.open_lists.proofs.HeldLaws.{held_begun}
 use Rattle.open_lists.proofs.ListLaws.{refuses_opening, deep_in}
 use Rattle.open_lists.proofs.StepLaws.{told_breaks, open_leads, first_leads}
 use Rattle.open_lists.proofs.lists.OpenLists.open.Goals as goal
@@ -28,3 +30,8 @@ returns-in_ok-push-in-Some-2-clause-takes g c = λ r from rest e.
     let list = c.in-Some.list in
     open_leads r c.args.self.now.lists.items c.pop.new.self.items list c.in-Some.ensures.items c.push-in-Some.new.self.items c.push-in-Some-2.new.self.items c.new-begun.result c.args.place from rest
     c.in_ok-push-in-Some.ensures.items c.in_ok-push-in-Some-2.ensures.items c.new-begun.ensures.place c.new-begun.ensures.forms c.new-begun.ensures.reach (sym c.takes_form.ensures ∙ c.if-not-takes_form.false) (omega (arith, c.if-lists.false, ap length c.as_slice-lists.ensures.value)) e
+
+pub returns-in_ok-push-in-Some-2-clause-holds : goal.returns-in_ok-push-in-Some-2-clause-holds
+returns-in_ok-push-in-Some-2-clause-holds g c =
+    held_begun c.push-in-Some-2.new.self.items c.push-in-Some.new.self.items c.new-begun.result c.in_ok-push-in-Some-2.ensures.items c.new-begun.ensures.forms c.new-begun.ensures.reach
+    ∙ ap held (c.in_ok-push-in-Some.ensures.items ∙ sym c.in-Some.ensures.items)

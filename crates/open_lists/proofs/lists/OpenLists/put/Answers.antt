@@ -2,6 +2,7 @@ use Rattle.std.proofs.Common.{sym, ◌∙◌}
 use Rattle.clvm_spec.specs.declared.scan_kind.ScanKind.TheVariants as kind
 use Rattle.clvm_spec.specs.Grammar.{Parses}
 use Rattle.open_lists.proofs.ListLaws.{refuses_form, next_in}
+use Rattle.open_lists.proofs.HeldLaws.{held_put}
 use Rattle.open_lists.proofs.StepLaws.{resumed_breaks, put_leads}
 use Rattle.open_lists.proofs.lists.OpenLists.put.Goals as goal
 
@@ -18,3 +19,8 @@ returns-in_ok-push-in-Ok-clause-leads g c = λ r rest.
     put_leads r c.args.self.now.lists.items c.pop.new.self.items list c.in-Some.ensures.items c.push.new.self.items c.in-Ok.next c.args.form rest
     c.in_ok-push-in-Ok.ensures.items
     (next_in r _ list c.in-Ok.next c.args.form rest (sym c.takes_form.ensures ∙ c.if-not-takes_form.false) c.in-Ok.ensures.place c.in-Ok.ensures.forms c.in-Ok.ensures.reach)
+
+pub returns-in_ok-push-in-Ok-clause-holds : goal.returns-in_ok-push-in-Ok-clause-holds
+returns-in_ok-push-in-Ok-clause-holds g c =
+    held_put c.args.self.now.lists.items c.pop.new.self.items c.push.new.self.items c.in-Some.list c.in-Ok.next c.args.form c.in-Some.ensures.items c.in_ok-push-in-Ok.ensures.items
+    (sym c.takes_form.ensures ∙ c.if-not-takes_form.false) c.in-Ok.ensures.forms c.in-Ok.ensures.reach
