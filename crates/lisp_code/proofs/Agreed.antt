@@ -4,18 +4,18 @@ use Rattle.clvm_spec.specs.declared.fuel.Fuel.{Fuel}
 use Rattle.clvm_spec.specs.Spending.{Spending}
 use Rattle.clvm_spec.specs.Tree.{Tree, Pair, list_tree}
 use Rattle.clvm_spec.specs.Outcomes as run
-use Rattle.clvm_spec.specs.Outcomes.{Outcome}
+use Rattle.clvm_spec.specs.Outcomes.{Why, Outcome}
 use Rattle.clvm_spec.specs.Evaluation.{evaluation, run_outcome}
 use Rattle.lisp_spec.specs.Forms.{Form}
 use Rattle.lisp_spec.specs.Modules.{Module, Definition}
 use Rattle.lisp_spec.specs.Parameters.{tree_at}
 use Rattle.clvm_spec.specs.Currying.{quote_of}
 use Rattle.lisp_spec.proofs.FormEnvironments.{Environment, function_environment}
-use Rattle.lisp_spec.proofs.FormMeaning.{Meaning, Value, Wide, Out, if_value, run_meaning, expression_meaning, meaning_within, meaning, module_meaning}
+use Rattle.lisp_spec.proofs.FormMeaning.{Meaning, Value, Failed, Wide, Out, if_value, run_meaning, expression_meaning, meaning_within, meaning, module_meaning}
 use Rattle.lisp_spec.specs.Meaning as meanings
 use Rattle.lisp_spec.specs.ModuleLaws.{AreBound}
 use Rattle.lisp_spec.proofs.BoundProofs.{module_is_its_forms}
-use Rattle.lisp_spec.specs.Agreement.{HasValue, IsWide, RunsTo, RunsWide, Agrees}
+use Rattle.lisp_spec.specs.Agreement.{HasValue, IsWide, IsFailing, RunsTo, RunsWide, RunsAstray, Agrees, FailsAlike}
 use Rattle.lisp_code.proofs.Refining.{Refines, out, same, Covered}
 use Rattle.lisp_code.proofs.Enough.{Reaches, value, failed, wide, Enough}
 use Rattle.lisp_code.proofs.Enough as reaches
@@ -130,6 +130,12 @@ reached_wide need fuel m o e (failed why form) = cc
 reached_wide need fuel m o e wide = refl
 reached_wide need fuel m o e (reaches.out o') = cc
 
+reached_failure : (need : Spending) (fuel : Fuel) (m : Meaning) (o : Outcome) → m ≡ Failed → Reaches need fuel m o → (why : Why) × (form : Tree) × (o ≡ run.Failed why form)
+reached_failure need fuel m o e (value w left h) = absurd cc
+reached_failure need fuel m o e (failed why form) = (why, form, refl)
+reached_failure need fuel m o e wide = absurd cc
+reached_failure need fuel m o e (reaches.out o') = absurd cc
+
 module _ (m : ℕ) (program argument : Tree) where
   abbrev enough : Enough (plain m program argument) (evaluation program argument)
   enough = fuel_is_enough m program argument
@@ -145,6 +151,9 @@ module _ (m : ℕ) (program argument : Tree) where
 
   pub runs_wide : plain m program argument ≡ Wide → RunsWide program argument
   runs_wide e = (ample, reached_wide enough.need ample (plain m program argument) (evaluation program argument 0 ample) e ample_reaches)
+
+  pub runs_astray : plain m program argument ≡ Failed → RunsAstray program argument
+  runs_astray e = let r = reached_failure enough.need ample (plain m program argument) (evaluation program argument 0 ample) e ample_reaches in (ample, r.0, r.1, r.2)
 
 -- ---- both ways
 
@@ -189,6 +198,15 @@ module _ (source : Module) (depth : ℕ) (is_settled : IsSettled source depth) (
 
   from_wide : RunsWide (module_code source depth) argument → IsWide source argument
   from_wide r = let m = source_means Wide (λ e. cc) r.0 (ap run_meaning r.1) in (m.0, sym (as_forms m.0) ∙ m.1)
+
+  to_failure : IsFailing source argument → RunsAstray (module_code source depth) argument
+  to_failure h = let c = code_gives Failed (λ e. cc) h.0 (as_forms h.0 ∙ h.1) in runs_astray c.0 (module_code source depth) argument c.1
+
+  from_failure : RunsAstray (module_code source depth) argument → IsFailing source argument
+  from_failure r = let m = source_means Failed (λ e. cc) r.0 (ap run_meaning r.3) in (m.0, sym (as_forms m.0) ∙ m.1)
+
+pub code_fails_alike : (source : Module) (depth : ℕ) → IsSettled source depth → AreBound source → FailsAlike source (module_code source depth)
+code_fails_alike source depth is_settled bound argument = (to_failure source depth is_settled bound argument, from_failure source depth is_settled bound argument)
 
 pub code_agrees : (source : Module) (depth : ℕ) → IsSettled source depth → AreBound source → Agrees source (module_code source depth)
 code_agrees source depth is_settled bound = record {

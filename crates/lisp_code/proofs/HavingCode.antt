@@ -5,7 +5,7 @@ use Rattle.clvm_spec.specs.Spelling.{spelling}
 use Rattle.lisp_spec.specs.Forms.{Form}
 use Rattle.lisp_spec.specs.Modules.{Module, Definition}
 use Rattle.clvm_spec.specs.Currying.{quote_of}
-use Rattle.lisp_spec.specs.Agreement.{Agrees}
+use Rattle.lisp_spec.specs.Agreement.{Agrees, FailsAlike}
 use Rattle.lisp_spec.proofs.FormCycleLaws.{HasNoCycle}
 use Rattle.lisp_spec.proofs.FormWeights as forms
 use Rattle.lisp_spec.proofs.FormsWeigh.{bound_is_that_of_forms, forms_have_no_cycle}
@@ -18,7 +18,7 @@ use Rattle.lisp_code.proofs.Eventually.{Eventually, eventually_same, eventually_
 use Rattle.lisp_code.proofs.Making.{marked, Making}
 use Rattle.lisp_code.proofs.Settling.{each_settles}
 use Rattle.lisp_code.proofs.Limits.{limit_is_its_step}
-use Rattle.lisp_code.proofs.Agreed.{code_agrees}
+use Rattle.lisp_code.proofs.Agreed.{code_agrees, code_fails_alike}
 use Rattle.lisp_code.proofs.Bounds.{module_fits}
 
 module _ (it : Making) (ends : HasNoCycle it.source) where
@@ -63,6 +63,7 @@ modules_have_code source bound no_cycle =
       code = code;
       are_codes = last_step (codes_of source) ends;
       agrees = subst (Agrees source) at.2 (code_agrees source at.0 at.1 bound);
+      fails = subst (FailsAlike source) at.2 (code_fails_alike source at.0 at.1 bound);
       within = subst (λ n. length (spelling (whole_code source code)) ≤ n) (bound_is_that_of_forms source bound)
           (subst (λ code. length (spelling code) ≤ forms.module_bound source) at.2 (module_fits source ends at.0));
     }

@@ -5,7 +5,7 @@ use Rattle.clvm_spec.specs.Tree.{Pair, nil}
 use Rattle.clvm_spec.specs.Spelling.{spelling}
 use Rattle.lisp_spec.specs.Forms.{Form}
 use Rattle.lisp_spec.specs.Modules.{Module}
-use Rattle.lisp_spec.specs.Agreement.{Agrees}
+use Rattle.lisp_spec.specs.Agreement.{Agrees, FailsAlike}
 use Rattle.lisp_spec.specs.ModuleLaws.{AreBound}
 use Rattle.lisp_spec.specs.CycleLaws.{HasNoCycle}
 use Rattle.lisp_spec.specs.ExpressionWeights.{module_bound}
@@ -16,11 +16,12 @@ use Rattle.lisp_code.specs.Code.{Codes, expression_code, whole_code}
 abbrev pub AreCodes : Module → Codes → Type 0
 AreCodes source code = (e : Form) (names : Names) → code e names ≡ expression_code source code e names
 
--- codes whose whole agrees with the module, and has a spelling no longer than the module's bound
+-- codes whose whole agrees with the module, fails where it fails, and has a spelling no longer than the module's bound
 pub record HasCode (source : Module) : Type 0 where
   pub code : Codes
   pub are_codes : AreCodes source code
   pub agrees : Agrees source (whole_code source code)
+  pub fails : FailsAlike source (whole_code source code)
   pub within : length (spelling (whole_code source code)) ≤ module_bound source
 
 -- Where each body is an expression and no inline reaches itself there are such codes.

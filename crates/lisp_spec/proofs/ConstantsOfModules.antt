@@ -1,20 +1,19 @@
 -- Each constant of a module is what its expression means in that module.
-use Rattle.std.proofs.Common.{◌≡◌, ℕ, Bool, true, false, cond, List, [], ◌∷◌, ◌++◌, Option, Some, None, Ok, Err, bytes_eq, refl, sym, ◌∙◌, ap, subst, append_assoc}
+use Rattle.std.proofs.Common.{◌≡◌, ℕ, Bool, true, false, cond, List, [], ◌∷◌, ◌++◌, Some, Ok, bytes_eq, refl, sym, ◌∙◌, ap, subst, append_assoc}
 use Rattle.std.proofs.lemmas.List.{append-nil}
-use Rattle.clvm_spec.specs.Tree.{Tree, Pair, list_tree}
+use Rattle.clvm_spec.specs.Tree.{Tree}
 use Rattle.clvm_spec.specs.Operators.{is_nil}
-use Rattle.clvm_spec.specs.OperatorTable.{applied}
 use Rattle.lisp_spec.specs.Forms.{Place}
 use Rattle.lisp_spec.specs.Modules.{Module, Constant, constant_named, constant_names}
 use Rattle.lisp_spec.specs.ModuleFaults.{Judged, ◌>>=◌}
 use Rattle.lisp_spec.specs.Definitions.{Written, constants_in}
 use Rattle.lisp_spec.specs.Expressions.{Expression, Literal, Name, Choice, Listing, Operation, FunctionCall, InlineCall, Filled, Operands, NoMore, Operand, Template, Plain, Both, Unquoted, expression_of}
 use Rattle.lisp_spec.specs.Scopes.{constant_scope}
-use Rattle.lisp_spec.specs.Constants.{met, result_value, named_value, expression_value, operand_values, template_value, constant_value, with_constant, constants_after}
-use Rattle.lisp_spec.specs.ModuleOf.{Draft, draft_of, module_of}
-use Rattle.lisp_spec.specs.Inclusion.{Texts, Parts, parts_of_text, definitions_of}
-use Rattle.lisp_spec.specs.ConstantLaws.{IsWhatItMeans, AreWhatTheyMean, ConstantsAreWhatTheyMean}
-use Rattle.lisp_spec.proofs.Reading.{then_ok, ok, ok_is}
+use Rattle.lisp_spec.specs.Constants.{met, named_value, expression_value, operand_values, template_value, constant_value, with_constant, constants_after}
+use Rattle.lisp_spec.specs.ModuleOf.{draft_of}
+use Rattle.lisp_spec.specs.Inclusion.{definitions_of}
+use Rattle.lisp_spec.specs.ConstantLaws.{AreWhatTheyMean, ConstantsAreWhatTheyMean}
+use Rattle.lisp_spec.proofs.Reading.{then_ok, ok_is}
 use Rattle.lisp_spec.proofs.ConstantProofs.{constants_mean_their_values}
 use Rattle.lisp_spec.proofs.ModuleProofs.{stages}
 

@@ -1,5 +1,5 @@
 -- What the stages of a module without fault say of it.
-use Rattle.std.proofs.Common.{◌≡◌, ℕ, ◌≤◌, ◌⊎◌, inl, inr, Bool, true, false, not, ◌&&◌, ◌||◌, cond, List, [], ◌∷◌, ◌++◌, map, filter, Option, Some, None, Ok, Err, refl, sym, ◌∙◌, ap, subst, arith, append_assoc, leb-true, nat_lt}
+use Rattle.std.proofs.Common.{◌≡◌, ℕ, ◌≤◌, Bool, true, false, not, ◌&&◌, ◌||◌, cond, List, [], ◌∷◌, ◌++◌, map, filter, Option, Some, None, Ok, Err, refl, sym, ◌∙◌, ap, subst, arith, append_assoc, leb-true, nat_lt}
 use Rattle.std.proofs.lemmas.List.{append-nil, map-append}
 use Rattle.clvm_spec.specs.Tree.{Tree, list_tree}
 use Rattle.clvm_spec.specs.Outcomes.{Applied, Gives, Fails, TooWide}
@@ -8,7 +8,7 @@ use Rattle.clvm_spec.specs.OperatorTable.{applied}
 use Rattle.lisp_spec.specs.Forms.{Form, Place}
 use Rattle.lisp_spec.specs.Modules.{Definition, Constant, Module, constant_named}
 use Rattle.lisp_spec.specs.Weights.{tree_weight, weight_limit}
-use Rattle.lisp_spec.specs.ModuleFaults.{InlineCycle, TooLarge, Fault, fault, Judged, ◌or◌, unless, expect, fault_of}
+use Rattle.lisp_spec.specs.ModuleFaults.{InlineCycle, TooLarge, fault, Judged, ◌or◌, unless, expect, fault_of}
 use Rattle.lisp_spec.specs.Definitions as roles
 use Rattle.lisp_spec.specs.Definitions.{Role, Function, Inline, Macro, Written, is_role, names_of, constants_in, macros_in, without_macros, functions_in, inlines_in, definition}
 use Rattle.lisp_spec.specs.Inclusion.{Texts, Parts, parts_of_text, definitions_of}
@@ -17,7 +17,7 @@ use Rattle.lisp_spec.specs.Scopes.{constant_scope, body_scope, IsExpression}
 use Rattle.lisp_spec.specs.Constants.{met, result_value, named_value, expression_value, operand_values, template_value, constant_value, with_constant, constants_after}
 use Rattle.lisp_spec.specs.Cycles.{reaches_itself}
 use Rattle.lisp_spec.specs.ExpressionWeights.{expression_weight, definition_weight}
-use Rattle.lisp_spec.specs.ModuleOf.{Draft, draft_of, draft_scope, forms_fault, draft_fault, cycle_fault, is_light, weights_fault, module_with, module_fault, module_of}
+use Rattle.lisp_spec.specs.ModuleOf.{Draft, draft_of, draft_scope, forms_fault, draft_fault, cycle_fault, is_light, weights_fault, module_with, module_fault}
 use Rattle.lisp_spec.specs.ModuleLaws.{StandsFor, IsBound, NamesAreBound, InlinesEnd, WeightsAreWithinTheLimit, ValuesAreWithinTheLimit}
 use Rattle.lisp_spec.specs.Modules.{definition_names, constant_names}
 use Rattle.std.specs.List.{AllByRecursion}
