@@ -5,4 +5,3 @@ mod CoinTurns
 mod SessionLaws
 pub mod Histories
 pub mod Endings
-pub mod FirstWords

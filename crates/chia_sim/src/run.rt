@@ -1,4 +1,4 @@
-ghost use Rattle.std.specs.Prelude.{◌≡◌, ◌≤◌, Some, None, true, false, IfOk, IfErr};
+ghost use Rattle.std.specs.Prelude.{◌≡◌, ◌≤◌, Some, None, false, IfOk, IfErr};
 ghost use Rattle.ports_io.specs.Outside.{Rose, Stays};
 ghost use Rattle.tool_words.specs.declared.said.Command.TheVariants as command;
 ghost use Rattle.chia_sim.specs.Outside.{reading, writing, WritesLine};
@@ -122,7 +122,7 @@ fn begin_with_session(words: &[String]) -> bool
     }
 }
 
-// Plays a session where the words behind `session` are none.
+// Plays a session where the words are that command.
 fn run_session_words<S: Source, K: Sink, B: Library, G: Gate>(
     alloc: Global,
     words: &[String],
@@ -131,7 +131,6 @@ fn run_session_words<S: Source, K: Sink, B: Library, G: Gate>(
     library: &mut B,
     gate: &G,
 ) -> u8
-    requires { begin_with_session words.now ≡ true }
     ensures headline { Ends (said words.now)
         (reading (S.left source.old) (S.left source.new) (S.faults source.old) (S.faults source.new))
         (writing (K.got sink.old) (K.got sink.new) (K.faults sink.old) (K.faults sink.new)) result }
@@ -143,7 +142,7 @@ fn run_session_words<S: Source, K: Sink, B: Library, G: Gate>(
 {
     match command(alloc, words) {
         Ok(Command::Session) => run_session(alloc, source, sink, library, gate),
-        Ok(_) => unreachable!(),
+        Ok(command) => run_command(alloc, command, source, sink),
         Err(fault) => end_with(sink, Stop::from(fault)),
     }
 }

@@ -207,17 +207,17 @@ HasCode (Some source) code = IsCodeOf source code
 abbrev pub AreCompiled : List Compiled → Type 0
 AreCompiled modules = AllByRecursion (λ m. HasCode m.source m.code) modules
 
--- The input is this session, with some codes that agree with its modules.
-pub record IsSession (texts : Texts) (input : List ℕ) (session : Session) : Type 0 where
-  pub codes : List (List ℕ)
-  pub reads : session_of texts codes input ≡ Ok session
-  pub compiled : AreCompiled session.modules
+-- the modules that were read: those of the session, or of the lines before the faulty one
+abbrev pub modules_in : Result Session Faulty → List Compiled
+modules_in (Ok session) = session.modules
+modules_in (Err faulty) = faulty.modules
 
--- The input has this first faulty line, with some codes that agree with the modules before it.
-pub record IsFaulty (texts : Texts) (input : List ℕ) (faulty : Faulty) : Type 0 where
+-- The input is read so, by one list of codes that agree with the modules that were read. All that is said of one call speaks of
+-- one such result.
+pub record IsReadWithCodes (texts : Texts) (input : List ℕ) (result : Result Session Faulty) : Type 0 where
   pub codes : List (List ℕ)
-  pub reads : session_of texts codes input ≡ Err faulty
-  pub compiled : AreCompiled faulty.modules
+  pub reads : session_of texts codes input ≡ result
+  pub compiled : AreCompiled (modules_in result)
 
 -- ---- replays
 

@@ -1,3 +1,4 @@
+use Rattle.ports_io.proofs.OutsideLemmas.{Stays-refl}
 use Rattle.chia_sim.proofs.Endings.{ends-complete, ends-fault, ends-too_long, ends-read_fault, ends-write_fault}
 use Rattle.chia_sim.proofs.run.run_session.Goals as goal
 
@@ -15,3 +16,6 @@ returns-clause-read_fault g c = ends-read_fault _ _ _ _ c.run_command.ensures.he
 
 pub returns-clause-write_fault : goal.returns-clause-write_fault
 returns-clause-write_fault g c = ends-write_fault _ _ _ _ c.run_command.ensures.headline
+
+pub returns-clause-library_texts : goal.returns-clause-library_texts
+returns-clause-library_texts g c = Stays-refl _
