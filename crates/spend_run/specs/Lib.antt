@@ -1,0 +1,4 @@
+pub mod Breaches
+pub mod Found
+pub mod Outputs
+pub mod Readings

@@ -1,0 +1,13 @@
+//! What a spend's bytes say by themselves: its run, its conditions, and what they cost; and the bundles of a pool.
+#![tactic(auto)]
+
+mod copies;
+mod fault;
+mod found;
+mod own_rules;
+mod run;
+
+pub use fault::SpendFault;
+pub use found::{FactList, Facts};
+pub use judge_spec::{Class, Limits};
+pub use run::facts;
