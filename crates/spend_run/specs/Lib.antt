@@ -1,4 +1,5 @@
 pub mod Breaches
 pub mod Found
+pub mod Items
 pub mod Outputs
 pub mod Readings

@@ -4,10 +4,12 @@
 mod copies;
 mod fault;
 mod found;
+mod item;
 mod own_rules;
 mod run;
 
 pub use fault::SpendFault;
 pub use found::{FactList, Facts};
+pub use item::Item;
 pub use judge_spec::{Class, Limits};
 pub use run::facts;
