@@ -155,9 +155,9 @@ class Run:
         self.seconds = float('inf')
         self.mebibytes = 0
         for _ in range(times):
-            self._once(command, path_of(name))
+            self.once(command, path_of(name))
 
-    def _once(self, command, path):
+    def once(self, command, path):
         with open(path, 'rb') as source, tempfile.TemporaryFile() as sink, tempfile.NamedTemporaryFile() as note:
             timed = [TIME, '-q', '-f', '%M', '-o', note.name] if os.path.exists(TIME) else []
             child = subprocess.Popen(timed + command, stdin=source, stdout=sink)

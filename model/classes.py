@@ -28,23 +28,45 @@ def is_hash(tree):
     return is_atom(tree) and len(tree) == 32
 
 
-# The puzzle is curried with two arguments (1); its program is the singleton's (2); the first argument is `(M . (L .
-# Q))` with the singleton's hash and two hashes (3).
-def inner_puzzle(puzzle, singleton):
-    """The second argument, in a tuple, or None."""
-    parts = uncurried(puzzle)
-    if parts is None or len(parts[1]) != 2 or tree_hash(parts[0]) != singleton:
-        return None
-    struct, inner = parts[1]
-    if is_atom(struct) or not is_atom(struct[0]) or struct[0] != singleton:
-        return None
-    if is_atom(struct[1]) or not is_hash(struct[1][0]) or not is_hash(struct[1][1]):
-        return None
-    return (inner,)
+# The checks of the forward shape, one after the other: the puzzle is curried with two arguments (1); its program is the
+# singleton's (2); the first argument is `(M . (L . Q))` with the singleton's hash and two hashes (3); the solution isn't
+# too long and is a list of three: the proof, which is a list of two hashes and an amount, the coin's amount, and
+# anything (4); the proof names the inner puzzle's hash (5); the coin's and its parent's amounts are odd (6); the coin's
+# parent is the coin that the proof tells (7); the run is done and its conditions are good, exactly one created coin has
+# an odd amount, and that one is as the coin (8); and no condition binds it to this one coin (9).
+def broken_check(spend, limit, singleton):
+    """The number of the first one that is broken, or None."""
+    parts = uncurried(spend.puzzle)
+    if parts is None or len(parts[1]) != 2:
+        return 1
+    if tree_hash(parts[0]) != singleton:
+        return 2
+    if not is_struct(parts[1][0], singleton):
+        return 3
+    proof, coin = proof_of(spend), spend.coin
+    if proof is None:
+        return 4
+    if proof[1] != tree_hash(parts[1][1]):
+        return 5
+    if coin.amount % 2 == 0 or proof[3] % 2 == 0:
+        return 6
+    if coin.parent != sha256(proof[0], coin.puzzle_hash, proof[2]):
+        return 7
+    conditions = conditions_or_none(spend, limit)
+    if conditions is None:
+        return 8
+    odd = [it.operands for it in conditions if it.code == 51 and it.operands[1] % 2]
+    if odd != [(coin.puzzle_hash, coin.amount)]:
+        return 8
+    return 9 if any(it.code in HELD_BACK for it in conditions) else None
 
 
-# The solution isn't too long and is a list of three: the proof, which is a list of two hashes and an amount, the coin's
-# amount, and anything (4).
+def is_struct(tree, singleton):
+    if is_atom(tree) or not is_atom(tree[0]) or tree[0] != singleton:
+        return False
+    return not is_atom(tree[1]) and is_hash(tree[1][0]) and is_hash(tree[1][1])
+
+
 def proof_of(spend):
     """Parent's parent, inner hash, and parent's amount as atom and number; or None."""
     parts = elements(spend.solution, 3) if spelled_size(spend.solution) <= MOST_SOLUTION else None
@@ -60,21 +82,8 @@ def proof_of(spend):
     return (*proof, amount)
 
 
-# The proof names the inner puzzle's hash (5); the coin's and its parent's amounts are odd (6); the coin's parent is the
-# coin that the proof tells (7); the run is done and its conditions are good, exactly one created coin has an odd
-# amount, and that one is as the coin (8); and no condition binds it to this one coin (9).
 def has_shape(spend, limit, singleton):
-    inner, proof = inner_puzzle(spend.puzzle, singleton), proof_of(spend)
-    if inner is None or proof is None or proof[1] != tree_hash(inner[0]):
-        return False
-    coin = spend.coin
-    if coin.amount % 2 == 0 or proof[3] % 2 == 0 or coin.parent != sha256(proof[0], coin.puzzle_hash, proof[2]):
-        return False
-    conditions = conditions_or_none(spend, limit)
-    if conditions is None:
-        return False
-    odd = [it.operands for it in conditions if it.code == 51 and it.operands[1] % 2]
-    return odd == [(coin.puzzle_hash, coin.amount)] and not any(it.code in HELD_BACK for it in conditions)
+    return broken_check(spend, limit, singleton) is None
 
 
 # A spend has the shape only where no other of the bundle has its puzzle hash (10). Where all have it, none is forward;
@@ -106,17 +115,26 @@ def is_unspent(chain, taken, id):
     return id not in taken.spent and (id in taken.created or record is not None and record.spent is None)
 
 
+class BrokenLineage(Exception):
+    """The number of the first check that is broken."""
+
+
 # The one unspent coin of a puzzle hash and amount after chain and taken spends, with its parent; none where there is no
 # such coin (1) or several (2), where its parent is nowhere (3), or has another puzzle hash (4).
 def lineage_of(chain, taken, puzzle_hash, amount):
+    """The coin and its parent; raises BrokenLineage."""
     found = {it.coin.id: it.coin for it in chain.records.values() if it.spent is None} | taken.created
     found = [it for id, it in found.items()
              if (it.puzzle_hash, it.amount) == (puzzle_hash, amount) and is_unspent(chain, taken, id)]
     if len(found) != 1:
-        return None
+        raise BrokenLineage(2 if found else 1)
     record = chain.records.get(found[0].parent)
     parent = record.coin if record else taken.created.get(found[0].parent)
-    return (found[0], parent) if parent and parent.puzzle_hash == puzzle_hash else None
+    if parent is None:
+        raise BrokenLineage(3)
+    if parent.puzzle_hash != puzzle_hash:
+        raise BrokenLineage(4)
+    return found[0], parent
 
 
 # The spend of the new coin: the parent's parent and amount in the proof, and the amount.
@@ -130,8 +148,10 @@ def rewritten(spend, coin, parent):
 def fit_of(bundle, classes, chain, taken):
     fit = []
     for spend, kind in zip(bundle.spends, classes):
-        lineage = None
         if kind == FORWARD and not is_unspent(chain, taken, spend.coin.id):
-            lineage = lineage_of(chain, taken, spend.coin.puzzle_hash, spend.coin.amount)
-        fit.append(rewritten(spend, *lineage) if lineage else spend)
+            try:
+                spend = rewritten(spend, *lineage_of(chain, taken, spend.coin.puzzle_hash, spend.coin.amount))
+            except BrokenLineage:
+                pass
+        fit.append(spend)
     return fit

@@ -22,7 +22,11 @@ class Broken(Exception):
 
 
 class BrokenSpend(Exception):
-    """A rule of one spend is broken."""
+    """A rule of one spend is broken; of the rules 7 to 10 the place of the condition is told, too."""
+
+    def __init__(self, rule, place=None):
+        super().__init__(rule, place)
+        self.rule, self.place = rule, place
 
 
 RUNS = {}
@@ -45,7 +49,7 @@ def run_of(spend, limit):
 
 # Rules 3 to 10 of one spend: its puzzle's hash is the coin's (3); its run doesn't fail (4), has enough cost (5) and
 # isn't wide (6); no condition is malformed (7) or unknown (8); its created coins differ (9); what it says of its own
-# coin is so (10).
+# coin is so (10). Of two equal created coins the second is told.
 def facts_of(spend, limit):
     if tree_hash(spend.puzzle) != spend.coin.puzzle_hash:
         raise BrokenSpend(3)
@@ -59,13 +63,15 @@ def facts_of(spend, limit):
     except Wide:
         raise BrokenSpend(6) from None
     except BadCondition as bad:
-        raise BrokenSpend(8 if bad.is_unknown else 7) from None
-    outputs = [it.operands for it in conditions if it.code == 51]
-    if len(set(outputs)) < len(outputs):
-        raise BrokenSpend(9)
+        raise BrokenSpend(8 if bad.is_unknown else 7, bad.place) from None
+    outputs = {}
+    for place, it in enumerate(conditions):
+        if it.code == 51 and outputs.setdefault(it.operands, place) != place:
+            raise BrokenSpend(9, place)
     own = {70: spend.coin.id, 71: spend.coin.parent, 72: spend.coin.puzzle_hash, 73: spend.coin.amount}
-    if any(it.code in own and it.operands[0] != own[it.code] for it in conditions):
-        raise BrokenSpend(10)
+    for place, it in enumerate(conditions):
+        if it.code in own and it.operands[0] != own[it.code]:
+            raise BrokenSpend(10, place)
     created = [Coin(spend.coin.id, *it) for it in outputs]
     size = SPEND_BYTES + spelled_size(spend.puzzle) + spelled_size(shortest(spend.coin.amount)) + spelled_size(spend.solution)
     return Facts(spend, conditions, created, cost + sum(map(condition_cost, conditions)), size)
@@ -226,7 +232,7 @@ def judge(chain, spends, attested, limit):
         try:
             facts.append(facts_of(spend, limit))
         except BrokenSpend as broken:
-            raise Broken(broken.args[0], place) from None
+            raise Broken(broken.rule, place) from None
         cost += facts[-1].run_cost + BYTE_COST * facts[-1].bytes
         if cost > limit:
             raise Broken(5, place)

@@ -1,1 +1,3 @@
 pub mod AddedLaws
+pub mod WrittenLaws
+mod ReadingRows

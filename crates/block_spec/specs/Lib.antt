@@ -4,3 +4,4 @@ pub mod BundleTree
 pub mod Added
 pub mod BlockTree
 pub mod BlockReading
+pub mod BlockLaws

@@ -68,3 +68,26 @@ impl Attested {
         self.list.as_slice()
     }
 }
+
+#[cfg(test)]
+mod tests {
+    use super::*;
+    use coin_facts::KEY_BYTES;
+    use std::test::Fail;
+
+    #[test]
+    fn a_pair_stands_as_it_was_added(rt: HostRuntime) -> Result<(), Fail> {
+        let mut attested = Attested::new(rt.alloc());
+        let key = Bytes::from_slice(rt.alloc(), [7; KEY_BYTES].as_slice())?;
+        let message = Bytes::from_slice(rt.alloc(), [5, 6].as_slice())?;
+        attested.push(rt.alloc(), Signed { key, message })?;
+        assert!(rt; attested.has_room());
+        let pairs = attested.as_slice();
+        assert_eq!(rt; pairs.len(), 1);
+        for pair in pairs {
+            assert_eq!(rt; pair.key.as_slice(), [7; KEY_BYTES].as_slice());
+            assert_eq!(rt; pair.message.as_slice(), [5, 6].as_slice());
+        }
+        Ok(())
+    }
+}

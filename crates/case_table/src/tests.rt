@@ -1,4 +1,6 @@
-use super::{ANY_COUNT, Row, code_of, find, find_name, name_of, operators, symbol_code};
+use super::{
+    ANY_COUNT, Row, code_of, conditions, find, find_name, name_of, operators, symbol_code,
+};
 
 const fn row(code: u8, name: &'static str) -> Row {
     Row {
@@ -42,4 +44,23 @@ fn names_operators(rt: HostRuntime) {
     assert!(rt; code_of("softfork") == None);
     assert!(rt; symbol_code(b"lognot") == Some(27));
     assert!(rt; symbol_code(b"+\xff") == None);
+}
+
+#[test]
+fn finds_conditions(rt: HostRuntime) {
+    let rows = conditions();
+    for (code, place) in [
+        (1, Some(0)),
+        (42, None),
+        (43, Some(1)),
+        (53, None),
+        (67, Some(18)),
+        (87, Some(33)),
+        (88, None),
+        (90, None),
+    ] {
+        assert_eq!(rt; find(rows, code), place, "at {code}");
+    }
+    assert!(rt; find_name(rows, "CREATE_COIN") == Some(9));
+    assert!(rt; rows[9].cost == 1_800_000 && rows[9].arity_low == 2);
 }

@@ -1,37 +1,33 @@
 -- The records of a sound chain have distinct ids.
-use Rattle.std.proofs.Common.{◌≡◌, ℕ, suc, Bool, true, false, ◌||◌, not, ◌&&◌, cond, if◌then◌else◌, Option, Some, None, List, [], ◌∷◌, ◌++◌, map, refl, ap, sym, ◌∙◌, subst}
+use Rattle.std.proofs.Common.{◌≡◌, ℕ, suc, Bool, true, false, ◌||◌, not, ◌&&◌, cond, if◌then◌else◌, Some, List, [], ◌∷◌, ◌++◌, map, refl, ap, sym, ◌∙◌, subst}
 use Rattle.std.specs.Prelude.{is_some}
-use Rattle.std.specs.List.{IsDistinct, AllByRecursion, list_any, list_all, find}
+use Rattle.std.specs.List.{IsDistinct, AllByRecursion, list_all, find}
+use Rattle.std.proofs.lemmas.Bool.{or_parts}
 use Rattle.std.proofs.lemmas.List.{map-append}
 use Rattle.coin_facts.specs.declared.hash32.Hash32.{Hash32}
 use Rattle.coin_facts.specs.declared.coin.Coin.{Coin}
 use Rattle.coin_facts.specs.CoinId.{coin_id}
 use Rattle.coin_facts.specs.IdLists.{is_same_id, has_id, is_among}
 use Rattle.chain_spec.specs.declared.chain.Record.{Record}
-use Rattle.chain_spec.specs.Chain.{Ledger, Connected, Chain, is_in_chain, made_at, spent_at, start_record, after_block, after_blocks, start_ledger, ledger_of}
-use Rattle.chain_spec.specs.Soundness.{CanConnect, CanFollow, IsSound}
+use Rattle.chain_spec.specs.Chain.{Ledger, Connected, is_in_chain, made_at, spent_at, after_block, after_blocks, start_ledger}
+use Rattle.chain_spec.specs.Soundness.{CanConnect, CanFollow}
 use Rattle.chain_spec.specs.ChainLaws.{ids_of, RecordsAreApart}
-
-either : (x y : Bool) → (x || y) ≡ false → (x ≡ false) × (y ≡ false)
-either false false e = (refl, refl)
-either false true e = cc
-either true y e = cc
 
 -- ---- distinct ids, one list behind another
 
-all-append : (P : Hash32 → Type 0) (xs ys : List Hash32) → AllByRecursion P xs → AllByRecursion P ys → AllByRecursion P (xs ++ ys)
+pub all-append : {A : Type 0} (P : A → Type 0) (xs ys : List A) → AllByRecursion P xs → AllByRecursion P ys → AllByRecursion P (xs ++ ys)
 all-append P [] ys a b = b
 all-append P (x ∷ xs) ys a b = (a.0, all-append P xs ys a.1 b)
 
-apart-first : (x : Hash32) (xs ys : List Hash32) → AllByRecursion (λ y. is_among (x ∷ xs) y ≡ false) ys → AllByRecursion (λ y. is_same_id x y ≡ false) ys
+pub apart-first : (x : Hash32) (xs ys : List Hash32) → AllByRecursion (λ y. is_among (x ∷ xs) y ≡ false) ys → AllByRecursion (λ y. is_same_id x y ≡ false) ys
 apart-first x xs [] apart = tt
-apart-first x xs (y ∷ ys) apart = ((either (is_same_id x y) (is_among xs y) apart.0).0, apart-first x xs ys apart.1)
+apart-first x xs (y ∷ ys) apart = ((or_parts (is_same_id x y) (is_among xs y) apart.0).0, apart-first x xs ys apart.1)
 
-apart-rest : (x : Hash32) (xs ys : List Hash32) → AllByRecursion (λ y. is_among (x ∷ xs) y ≡ false) ys → AllByRecursion (λ y. is_among xs y ≡ false) ys
+pub apart-rest : (x : Hash32) (xs ys : List Hash32) → AllByRecursion (λ y. is_among (x ∷ xs) y ≡ false) ys → AllByRecursion (λ y. is_among xs y ≡ false) ys
 apart-rest x xs [] apart = tt
-apart-rest x xs (y ∷ ys) apart = ((either (is_same_id x y) (is_among xs y) apart.0).1, apart-rest x xs ys apart.1)
+apart-rest x xs (y ∷ ys) apart = ((or_parts (is_same_id x y) (is_among xs y) apart.0).1, apart-rest x xs ys apart.1)
 
-distinct-append : (xs ys : List Hash32) → IsDistinct is_same_id xs → IsDistinct is_same_id ys → AllByRecursion (λ y. is_among xs y ≡ false) ys → IsDistinct is_same_id (xs ++ ys)
+pub distinct-append : (xs ys : List Hash32) → IsDistinct is_same_id xs → IsDistinct is_same_id ys → AllByRecursion (λ y. is_among xs y ≡ false) ys → IsDistinct is_same_id (xs ++ ys)
 unfolding IsDistinct
 distinct-append [] ys a b apart = b
 distinct-append (x ∷ xs) ys a b apart =
@@ -48,11 +44,11 @@ ids-spent height spent (one ∷ records) =
     same true = refl
     same false = refl
 
-ids-made : (height seconds : ℕ) (coins : List Coin) → ids_of (map (made_at height seconds) coins) ≡ map coin_id coins
+pub ids-made : (height seconds : ℕ) (coins : List Coin) → ids_of (map (made_at height seconds) coins) ≡ map coin_id coins
 ids-made height seconds [] = refl
 ids-made height seconds (coin ∷ coins) = ap (λ ids. coin_id coin ∷ ids) (ids-made height seconds coins)
 
-not-found : (id : Hash32) (records : List Record) → is_some (find (λ one. has_id id one.coin) records) ≡ false → is_among (ids_of records) id ≡ false
+pub not-found : (id : Hash32) (records : List Record) → is_some (find (λ one. has_id id one.coin) records) ≡ false → is_among (ids_of records) id ≡ false
 not-found id [] e = refl
 not-found id (one ∷ records) e = step (has_id id one.coin) refl e (not-found id records)
   where

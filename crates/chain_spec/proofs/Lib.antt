@@ -1,2 +1,5 @@
 pub mod DistinctLaws
 pub mod LookLaws
+pub mod MoveLaws
+pub mod PairLaws
+mod StoreRows

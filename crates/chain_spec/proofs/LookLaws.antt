@@ -3,7 +3,7 @@ use Rattle.std.proofs.Common.{◌≡◌, ℕ, suc, ◌==◌, Bool, true, false, 
 use Rattle.std.specs.Prelude.{filter}
 use Rattle.std.specs.List.{find, list_any}
 use Rattle.std.specs.Option.{option_or}
-use Rattle.std.proofs.lemmas.Bool.{false≢true, eqb-true}
+use Rattle.std.proofs.lemmas.Bool.{false≢true, eqb-true, and_parts, or_parts, or_right}
 use Rattle.std.proofs.lemmas.List.Folds.{find-append, list_any-append}
 use Rattle.std.proofs.lemmas.Slice.Eq.{bytes_eq-Decides}
 use Rattle.coin_facts.specs.declared.hash32.Hash32.{Hash32}
@@ -16,7 +16,7 @@ use Rattle.chain_spec.specs.Looks.{is_unspent_of, is_outside, is_of_pair, is_ask
 use Rattle.chain_spec.specs.ChainLaws.{is_pair, UntouchedStand, PartSufficesForIds, PartSufficesForPairs}
 
 -- ids that test as the same are one id
-same-id : (a b : Hash32) → is_same_id a b ≡ true → a ≡ b
+pub same-id : (a b : Hash32) → is_same_id a b ≡ true → a ≡ b
 same-id a b e = ap (λ bytes. record { bytes = bytes }) ((bytes_eq-Decides a.bytes b.bytes).0 e)
 
 found : Hash32 → Record → Bool
@@ -50,16 +50,11 @@ kept height spent id (one ∷ records) new =
     ∙ joined (found id one) (spent_at height spent one) one (find (found id) (map (spent_at height spent) records)) (find (found id) records)
     (kept-one height spent id one (found id one) goes refl refl new) (kept height spent id records new)
 
-either : (x y : Bool) → (x || y) ≡ false → (x ≡ false) × (y ≡ false)
-either false false e = (refl, refl)
-either false true e = cc
-either true y e = cc
-
 unmade : (height seconds : ℕ) (id : Hash32) (coins : List Coin) → is_among (map coin_id coins) id ≡ false → find (found id) (map (made_at height seconds) coins) ≡ None
 unfolding found
 unmade height seconds id [] new = refl
 unmade height seconds id (coin ∷ coins) new =
-    let both = either (is_same_id (coin_id coin) id) (is_among (map coin_id coins) id) new in
+    let both = or_parts (is_same_id (coin_id coin) id) (is_among (map coin_id coins) id) new in
     ap (λ test. cond test (Some (made_at height seconds coin)) (find (found id) (map (made_at height seconds) coins))) both.0 ∙ unmade height seconds id coins both.1
 
 or-none : (o : Option Record) → option_or o None ≡ o
@@ -69,7 +64,7 @@ or-none (Some one) = refl
 pub untouched : UntouchedStand
 unfolding found
 untouched ledger block id apart =
-    let both = either (is_among block.spent id) (is_among (map coin_id block.created) id) (sym (list_any-append (λ other. is_same_id other id) block.spent (map coin_id block.created)) ∙ apart) in
+    let both = or_parts (is_among block.spent id) (is_among (map coin_id block.created) id) (sym (list_any-append (λ other. is_same_id other id) block.spent (map coin_id block.created)) ∙ apart) in
     let height = suc ledger.peak.height in
     let made = map (made_at height block.seconds) block.created in
     kept height block.spent id (ledger.records ++ made) both.0
@@ -109,20 +104,11 @@ filter-filtered test keeps (x ∷ xs) all =
         ∙ more
         ∙ sym (ap (λ b. cond b (x ∷ filter test xs) (filter test xs)) is)
 
-or-true : (x y : Bool) → y ≡ true → (x || y) ≡ true
-or-true true y e = refl
-or-true false y e = e
-
 pub suffices-ids : PartSufficesForIds
 unfolding found
 suffices-ids ids pairs ledger id asked =
     find-filtered (found id) (is_asked ids pairs) ledger.records (λ one is.
     ap (λ b. b || list_any (is_of_pair one) pairs) (ap (is_among ids) (same-id (coin_id one.coin) id is) ∙ asked))
-
-both_hold : (x y : Bool) → (x && y) ≡ true → (x ≡ true) × (y ≡ true)
-both_hold true true e = (refl, refl)
-both_hold true false e = cc
-both_hold false y e = cc
 
 -- A pair that is asked for is that of an unspent record.
 any-pair : (one : Record) (puzzle_hash : Hash32) (amount : ℕ) (pairs : List (Hash32 × ℕ)) → is_unspent_of puzzle_hash amount one ≡ true → list_any (is_pair puzzle_hash amount) pairs ≡ true → list_any (is_of_pair one) pairs ≡ true
@@ -131,14 +117,14 @@ any-pair one puzzle_hash amount (pair ∷ pairs) is asked = step (is_pair puzzle
   where
     step : (b : Bool) → is_pair puzzle_hash amount pair ≡ b → (list_any (is_pair puzzle_hash amount) pairs ≡ true → list_any (is_of_pair one) pairs ≡ true) → (b || list_any (is_pair puzzle_hash amount) pairs) ≡ true → (is_of_pair one pair || list_any (is_of_pair one) pairs) ≡ true
     step true same more h =
-        let both = both_hold (is_same_id puzzle_hash pair.0) (amount == pair.1) same in
+        let both = and_parts (is_same_id puzzle_hash pair.0) (amount == pair.1) same in
         let here : is_of_pair one pair ≡ true =
         (λ j. is_unspent_of (sym (same-id puzzle_hash pair.0 both.0) j) (sym (eqb-true amount pair.1 both.1) j) one) ∙ is in
         ap (λ b. b || list_any (is_of_pair one) pairs) here
-    step false same more h = or-true (is_of_pair one pair) (list_any (is_of_pair one) pairs) (more h)
+    step false same more h = or_right (is_of_pair one pair) (list_any (is_of_pair one) pairs) (more h)
 
 pub suffices-pairs : PartSufficesForPairs
 suffices-pairs ids pairs ledger puzzle_hash amount except asked =
     ap (λ records. unspent_in (filter (is_outside except) records))
     (filter-filtered (is_unspent_of puzzle_hash amount) (is_asked ids pairs) ledger.records (λ one is.
-    or-true (is_among ids (coin_id one.coin)) (list_any (is_of_pair one) pairs) (any-pair one puzzle_hash amount pairs is asked)))
+    or_right (is_among ids (coin_id one.coin)) (list_any (is_of_pair one) pairs) (any-pair one puzzle_hash amount pairs is asked)))

@@ -3,3 +3,4 @@ pub mod Looks
 pub mod Soundness
 pub mod StoreViews
 pub mod ChainLaws
+pub mod ChangeLaws

@@ -2,6 +2,7 @@
 use Rattle.std.specs.Prelude.{ℕ, ◌-◌, List, [], ◌∷◌, ◌++◌, length, take, drop, reverse, nat_le, Option, Some, None}
 use Rattle.std.specs.List.{flat_map}
 use Rattle.coin_facts.specs.declared.hash32.Hash32.{Hash32}
+use Rattle.coin_facts.specs.declared.coin.Coin.{Coin}
 use Rattle.coin_facts.specs.Steps.{when}
 use Rattle.chain_spec.specs.Chain.{Connected, touched_by, Chain}
 
@@ -10,6 +11,14 @@ pub record StoreView : Type 0 where
   pub chain : Chain
   pub changes : List Hash32
   pub before : Option (Chain × List Hash32)
+
+-- with one coin more among those that the chain begins with, which is told as no change
+abbrev pub started : Coin → StoreView → StoreView
+started coin view = record {
+  chain = record view.chain { coins = view.chain.coins ++ coin ∷ [] };
+  changes = view.changes;
+  before = None;
+}
 
 -- with other blocks, and these ids added to the changes
 abbrev pub changed : List Connected → List Hash32 → StoreView → StoreView

@@ -123,6 +123,18 @@ pub record Yields (old new : List Tree) (before after : State) (whole : Outcome)
   pub cheaper : after.left.cost < before.left.cost
   pub same : goes_out new after (tree_at new value.0) after.left ≡ whole
 
+-- the same of what an open form comes to: what its operator gives
+abbrev pub YieldsOf : Frame → (old new : List Tree) (before after : State) → Node → Type 0
+YieldsOf frame old new before after value = Yields old new before after (outcome_of old before (step.Open frame)) value
+
+-- its fault
+abbrev pub IsFaultOf : Frame → (old new : List Tree) → State → RunFault → Type 0
+IsFaultOf frame old new before fault = IsRunFault new (outcome_of old before (step.Open frame)) fault
+
+-- the nodes after it: those of a list that is raised are new, and what was made before memory was wanting
+abbrev pub FewNodes : (old new : List Tree) → State → Type 0
+FewNodes old new before = length new ≤ length old + length old + before.left.pairs + before.left.bytes
+
 -- Where the trees stay as they are: the run goes on, or the fault is that of all.
 abbrev pub StepsTo : List Tree → State → State → Outcome → Result Step RunFault → Type 0
 StepsTo trees before after whole result = MatchResult result (Advances trees trees before after whole) (IsRunFault trees whole)

@@ -9,7 +9,7 @@ ghost use Rattle.clvm_spec.specs.OperatorTable.{apply_code};
 ghost use Rattle.clvm_tree.specs.Nodes.{tree_at, IsKnown, AreKnown, Grows};
 ghost use Rattle.clvm_tree.specs.Operators.{trees_at, outcome_by, IsAnswer, IsWithin, IsOpFault};
 ghost use Rattle.clvm_eval.specs.Runs.{IsRunFault};
-ghost use Rattle.clvm_eval.specs.Steps.{IsOpen, Advances, Yields, StepsTo, TakesAnswer, outcome_of};
+ghost use Rattle.clvm_eval.specs.Steps.{IsOpen, Advances, YieldsOf, IsFaultOf, FewNodes, StepsTo, TakesAnswer, outcome_of};
 ghost use Rattle.clvm_eval.specs.declared.state.Step.TheVariants as step;
 
 use crate::quick::quick;
@@ -35,6 +35,33 @@ fn fault_in(form: Node, fault: OpFault) -> RunFault
         OpFault::Spent(which) => RunFault::Spent(which),
         OpFault::OutOfMemory => RunFault::OutOfMemory,
     }
+}
+
+// What the table answers. It stands out of line, so that the loop of a run stays small, and it isn't given the state, so
+// that the loop may keep that in registers.
+#[inline(never)]
+fn table_answer<O: Operators>(
+    alloc: Global,
+    trees: &mut Trees,
+    ops: &O,
+    code: Node,
+    operands: &[Node],
+    left: Fuel,
+) -> Result<Answer, OpFault>
+    requires code_known { IsKnown trees.old code.0 }
+    requires operands_known { AreKnown trees.old operands.now }
+    requires fits { length trees.old + length operands.now + left.pairs + left.bytes < 2 ^ 31 }
+    ensures grows { Grows trees.old trees.new }
+    ensures few { IfOk result (λ answer. length trees.new ≤ length trees.old + answer.pairs + answer.bytes) }
+    ensures within { IfOk result (IsWithin left) }
+    ensures gives { IfOk result (IsAnswer trees.new
+        (outcome_by (tree_at trees.old code.0) (trees_at trees.old operands.now) left)) }
+    ensures few_after_fault { OnErr result
+        (length trees.new ≤ length trees.old + length operands.now + left.pairs + left.bytes) }
+    ensures fault { IfErr result (IsOpFault trees.new
+        (outcome_by (tree_at trees.old code.0) (trees_at trees.old operands.now) left)) }
+{
+    ops.apply(alloc, trees, code, operands, left)
 }
 
 impl State {
@@ -67,13 +94,17 @@ impl State {
         ensures { TakesAnswer start answer self.old self.new }
     {
         self.left.cost -= answer.cost;
-        self.left.pairs -= answer.pairs;
-        self.left.bytes -= answer.bytes;
+        if answer.pairs > 0 {
+            self.left.pairs -= answer.pairs;
+        }
+        if answer.bytes > 0 {
+            self.left.bytes -= answer.bytes;
+        }
         self.operands.truncate(start);
     }
 
-    // What an operator gives by the table. It stands out of line, so that the loop of a run stays small.
-    #[inline(never)]
+    // What an operator gives by the table.
+    #[inline(always)]
     fn value_by_table<O: Operators>(
         &mut self,
         alloc: Global,
@@ -85,12 +116,19 @@ impl State {
         requires ready { frame.programs ≡ 0 }
         requires other { is_code apply_code (tree_at trees.old frame.code.0) ≡ false }
         ensures grows { Grows trees.old trees.new }
-        ensures ok { IfOk result (Yields trees.old trees.new self.old self.new (outcome_of trees.old self.old (step.Open frame))) }
-        ensures few_after_fault { OnErr result (length trees.new ≤ length trees.old + length trees.old + self.old.left.pairs + self.old.left.bytes) }
-        ensures fault { IfErr result (IsRunFault trees.new (outcome_of trees.old self.old (step.Open frame))) }
+        ensures ok { IfOk result (YieldsOf frame trees.old trees.new self.old self.new) }
+        ensures few_after_fault { OnErr result (FewNodes trees.old trees.new self.old) }
+        ensures fault { IfErr result (IsFaultOf frame trees.old trees.new self.old) }
     {
         let start = self.operands.len() - frame.count as usize;
-        match ops.apply(alloc, trees, frame.code, &self.operands[start..], self.left) {
+        match table_answer(
+            alloc,
+            trees,
+            ops,
+            frame.code,
+            &self.operands[start..],
+            self.left,
+        ) {
             Ok(answer) => {
                 self.take_answer(start, answer);
                 Ok(answer.value)
@@ -98,6 +136,7 @@ impl State {
             Err(fault) => Err(fault_in(frame.form, fault)),
         }
     }
+
     // What an operator gives, at once where that can be told, else by the table.
     #[inline(always)]
     fn operator_value<O: Operators>(
@@ -111,9 +150,9 @@ impl State {
         requires ready { frame.programs ≡ 0 }
         requires other { is_code apply_code (tree_at trees.old frame.code.0) ≡ false }
         ensures grows { Grows trees.old trees.new }
-        ensures ok { IfOk result (Yields trees.old trees.new self.old self.new (outcome_of trees.old self.old (step.Open frame))) }
-        ensures few_after_fault { OnErr result (length trees.new ≤ length trees.old + length trees.old + self.old.left.pairs + self.old.left.bytes) }
-        ensures fault { IfErr result (IsRunFault trees.new (outcome_of trees.old self.old (step.Open frame))) }
+        ensures ok { IfOk result (YieldsOf frame trees.old trees.new self.old self.new) }
+        ensures few_after_fault { OnErr result (FewNodes trees.old trees.new self.old) }
+        ensures fault { IfErr result (IsFaultOf frame trees.old trees.new self.old) }
     {
         let start = self.operands.len() - frame.count as usize;
         match quick(alloc, trees, frame.code, &self.operands[start..], self.left) {
@@ -138,8 +177,8 @@ impl State {
         requires other { is_code apply_code (tree_at trees.old frame.code.0) ≡ false }
         ensures grows { Grows trees.old trees.new }
         ensures ok { IfOk result (Advances trees.old trees.new self.old self.new (outcome_of trees.old self.old (step.Open frame))) }
-        ensures few_after_fault { OnErr result (length trees.new ≤ length trees.old + length trees.old + self.old.left.pairs + self.old.left.bytes) }
-        ensures fault { IfErr result (IsRunFault trees.new (outcome_of trees.old self.old (step.Open frame))) }
+        ensures few_after_fault { OnErr result (FewNodes trees.old trees.new self.old) }
+        ensures fault { IfErr result (IsFaultOf frame trees.old trees.new self.old) }
     {
         let value = self.operator_value(alloc, trees, ops, frame)?;
         Ok(self.give(trees, value))

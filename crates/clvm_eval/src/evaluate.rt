@@ -54,7 +54,7 @@ pub(crate) fn begin(
         return evaluate_byte(trees, left, path, program, env);
     }
     match trees.look(program) {
-        Sight::Bytes(path) => evaluate_path(trees, left, path, program, env),
+        Sight::Bytes(path) => evaluate_long_path(trees, left, path, program, env),
         Sight::Parts(head, rest) => begin_pair(trees, left, head, rest, program, env),
     }
 }
@@ -82,7 +82,27 @@ fn evaluate_byte(
     Ok(Begun::Value(at.node))
 }
 
-// The same of a path of no byte or of several.
+// The same of a path of no byte or of several, which is seldom. What is passed to it and comes back lies in memory only
+// here, and not in the loop that this is inlined into.
+#[inline(always)]
+fn evaluate_long_path(
+    trees: &Trees,
+    left: &mut Fuel,
+    path: &[u8],
+    program: Node,
+    env: Node,
+) -> Result<Begun, RunFault>
+    requires program_known { IsKnown trees.now program.0 }
+    requires env_known { IsKnown trees.now env.0 }
+    requires path { tree_at trees.now program.0 ≡ Atom path.now }
+    ensures { Begins trees.now program.0 env.0 left.old left.new result }
+{
+    let mut after = *left;
+    let begun = evaluate_path(trees, &mut after, path, program, env);
+    *left = after;
+    begun
+}
+
 #[inline(never)]
 fn evaluate_path(
     trees: &Trees,
@@ -129,13 +149,21 @@ fn begin_pair(
         }
         Some(_) => Ok(Begun::Form(head, rest)),
         None => match trees.as_pair(head) {
-            Some(_) => Err(no_operator(program)),
+            Some(_) => Err(no_operator_at(program)),
             None => Ok(Begun::Form(head, rest)),
         },
     }
 }
 
-// The fault of a form whose head is a pair. It stands out of line, since it is seldom.
+// The fault of a form whose head is a pair. As above, it comes back in memory only here.
+#[inline(always)]
+fn no_operator_at(program: Node) -> RunFault
+    ensures { result ≡ fault.Failed why.Operator program }
+{
+    no_operator(program)
+}
+
+// The same. It stands out of line, since it is seldom.
 #[cold]
 #[inline(never)]
 fn no_operator(program: Node) -> RunFault

@@ -4,7 +4,7 @@ ghost use Rattle.std.specs.Prelude.{◌≡◌, ℕ, ◌+◌, ◌*◌, ◌<◌, �
 ghost use Rattle.clvm_spec.specs.Evaluation.{run_outcome, most_pairs, most_bytes, most_depth};
 ghost use Rattle.clvm_tree.specs.Nodes.{tree_at, IsKnown, Grows};
 ghost use Rattle.clvm_eval.specs.Runs.{IsRunDone, IsRunFault};
-ghost use Rattle.clvm_eval.specs.Steps.{IsOpen, Advances, outcome_of};
+ghost use Rattle.clvm_eval.specs.Steps.{IsOpen, Advances, IsFaultOf, FewNodes, outcome_of};
 ghost use Rattle.clvm_eval.specs.declared.state.Step.TheVariants as step;
 
 use crate::evaluate::is_code;
@@ -27,8 +27,8 @@ impl State {
         requires { IsOpen trees.old self.old frame }
         ensures grows { Grows trees.old trees.new }
         ensures ok { IfOk result (Advances trees.old trees.new self.old self.new (outcome_of trees.old self.old (step.Open frame))) }
-        ensures few_after_fault { OnErr result (length trees.new ≤ length trees.old + length trees.old + self.old.left.pairs + self.old.left.bytes) }
-        ensures fault { IfErr result (IsRunFault trees.new (outcome_of trees.old self.old (step.Open frame))) }
+        ensures few_after_fault { OnErr result (FewNodes trees.old trees.new self.old) }
+        ensures fault { IfErr result (IsFaultOf frame trees.old trees.new self.old) }
     {
         if frame.programs > 0 {
             self.evaluate_operand(trees, frame)

@@ -26,12 +26,11 @@ fn step(trees: &Trees, from: Place, bit: u32) -> Option<Place>
     ensures { MatchOption result (IsNoStep trees.now from bit) (IsStep trees.now from bit) }
 {
     let (first, rest) = trees.as_pair(from.node)?;
-    let steps = from.steps + 1;
-    if bit == 0 {
-        Some(Place { node: first, steps })
-    } else {
-        Some(Place { node: rest, steps })
-    }
+    let node = if bit == 0 { first } else { rest };
+    Some(Place {
+        node,
+        steps: from.steps + 1,
+    })
 }
 
 // Follows the bits below the highest set one, from the lowest up.

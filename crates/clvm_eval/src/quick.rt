@@ -223,7 +223,7 @@ fn new_number(
     if 0 < number && number < 0x80 {
         small_number(trees, number as u8, cost, left)
     } else {
-        large_number(alloc, trees, number, cost, left)
+        any_number(alloc, trees, number, cost, left)
     }
 }
 
@@ -248,7 +248,22 @@ fn small_number(trees: &Trees, number: u8, cost: u64, left: Fuel) -> Option<Answ
     })
 }
 
-// Any number.
+// Any number. What is passed lies in memory only here, and not in the loop that this is inlined into.
+#[inline(always)]
+fn any_number(
+    alloc: Global,
+    trees: &mut Trees,
+    number: i128,
+    cost: u64,
+    left: Fuel,
+) -> Option<Answer>
+    requires low { cost < 2 ^ 32 }
+    requires fits { length trees.old + left.pairs + left.bytes < 2 ^ 31 }
+    ensures { Quickly trees.old trees.new left (new_number cost number) result }
+{
+    large_number(alloc, trees, number, cost, left)
+}
+
 #[inline(never)]
 fn large_number(
     alloc: Global,

@@ -74,7 +74,7 @@ facts-keep limit more spend facts large e = keep-by limit more spend facts (has_
 at-least : (limit more : ℕ) → limit ≤ more → IsAtLeast (fuel_of more) (fuel_of limit)
 at-least limit more large = record { cost = large; pairs = omega arith; bytes = omega arith; depth = omega arith }
 
-unless-cost : (breach : ℕ → Breach) (place : Option ℕ) (found : Result Facts Breach) (facts : Facts) → unless_at breach place found ≡ Ok facts → found ≡ Ok facts
+pub unless-cost : (breach : ℕ → Breach) (place : Option ℕ) (found : Result Facts Breach) (facts : Facts) → unless_at breach place found ≡ Ok facts → found ≡ Ok facts
 unless-cost breach None found facts e = e
 unless-cost breach (Some place) found facts e = cc
 

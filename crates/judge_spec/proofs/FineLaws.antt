@@ -1,16 +1,16 @@
 -- What a Fine verdict says.
-use Rattle.std.proofs.Common.{◌≡◌, ℕ, ◌≤◌, Bool, true, false, nat_lt, if◌then◌else◌, Option, Some, None, List, [], ◌∷◌, ◌++◌, length, refl, ap, sym, ◌∙◌, subst, append_assoc, arith}
+use Rattle.std.proofs.Common.{◌≡◌, ℕ, ◌≤◌, Bool, true, false, nat_lt, if◌then◌else◌, Option, Some, None, List, [], ◌∷◌, ◌++◌, length, refl, subst, append_assoc, arith}
 use Rattle.std.proofs.lemmas.Bool.Decides.{nat_tests}
 use Rattle.chain_spec.specs.declared.chain.Peak.{Peak}
 use Rattle.judge_spec.specs.declared.rule.Rule.{Rule}
 use Rattle.judge_spec.specs.declared.rule.Rule.TheVariants.{SpentTwice, TooCostly}
 use Rattle.judge_spec.specs.Rules.{number_of}
 use Rattle.judge_spec.specs.Facts.{Facts}
-use Rattle.judge_spec.specs.Checks.{Terms, Scene, Check, checks_of_spent_coins, check_of_new_coins}
+use Rattle.judge_spec.specs.Checks.{Terms, Scene, Check}
 use Rattle.judge_spec.specs.Judgement.{Verdict, Fine, Broken, unless_broken, first_broken, spends_in, cost_of, fee_of, spent_twice, judged, with_costs, judgement_of_facts}
 use Rattle.judge_spec.specs.JudgeLaws.{AreKept, all_checks, scene_of, FineIsKept, FineIsWithinTheLimit, NewCoinsLast}
 
-unbroken : (rule : Rule) (place : Option ℕ) (verdict : Verdict) (cost fee : ℕ) → unless_broken rule place verdict ≡ Fine cost fee → (place ≡ None) × (verdict ≡ Fine cost fee)
+pub unbroken : (rule : Rule) (place : Option ℕ) (verdict : Verdict) (cost fee : ℕ) → unless_broken rule place verdict ≡ Fine cost fee → (place ≡ None) × (verdict ≡ Fine cost fee)
 unbroken rule None verdict cost fee e = (refl, e)
 unbroken rule (Some place) verdict cost fee e = cc
 
@@ -21,7 +21,7 @@ kept scene (check ∷ checks) verdict cost fee e =
     let others = kept scene checks verdict cost fee here.1 in
     ((here.0, others.0), others.1)
 
-within-one : (over : Bool) (place : ℕ) (verdict : Verdict) (cost fee : ℕ) → (if over then Broken (number_of TooCostly) place else verdict) ≡ Fine cost fee → (over ≡ false) × (verdict ≡ Fine cost fee)
+pub within-one : (over : Bool) (place : ℕ) (verdict : Verdict) (cost fee : ℕ) → (if over then Broken (number_of TooCostly) place else verdict) ≡ Fine cost fee → (over ≡ false) × (verdict ≡ Fine cost fee)
 within-one true place verdict cost fee e = cc
 within-one false place verdict cost fee e = (refl, e)
 

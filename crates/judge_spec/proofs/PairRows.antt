@@ -1,27 +1,16 @@
 -- Verdicts on lists of spends that break two neighbouring rules, computed: the lower one is told.
-use Rattle.std.proofs.Common.{◌≡◌, ℕ, ◌+◌, ◌*◌, Some, None, List, [], ◌∷◌, ◌++◌, map, replicate, refl}
+use Rattle.std.proofs.Common.{◌≡◌, None, [], ◌∷◌, refl}
 use Rattle.sha2.specs.Sha256.{sha256, digest_bytes, hash_after, compress, rounds, schedule, first_words}
-use Rattle.clvm_spec.specs.Tree.{Tree, Atom, Pair, nil, list_tree}
+use Rattle.clvm_spec.specs.Tree.{nil}
 use Rattle.clvm_spec.specs.Spelling.{spelling}
-use Rattle.clvm_spec.specs.Hashing.{tree_hash}
 use Rattle.clvm_spec.specs.Reading.{head_at, tree_at_front}
 use Rattle.clvm_spec.specs.Numbers.{without_sign_bytes, shortest_atom}
 use Rattle.clvm_spec.specs.OperatorTable.{applied, operator_of}
 use Rattle.clvm_spec.specs.Evaluation.{evaluation}
-use Rattle.coin_facts.specs.declared.hash32.Hash32.{Hash32}
-use Rattle.coin_facts.specs.declared.coin.Coin.{Coin}
-use Rattle.coin_facts.specs.CoinId.{coin_id}
-use Rattle.coin_facts.specs.Atoms.{number_atom}
-use Rattle.block_spec.specs.declared.spend.Spend.{Spend}
-use Rattle.block_spec.specs.declared.attested.Signed.{Signed}
-use Rattle.chain_spec.specs.declared.chain.Record.{Record}
-use Rattle.chain_spec.specs.Chain.{Ledger}
-use Rattle.cond_spec.specs.declared.codes.TheConstants.{AGG_SIG_UNSAFE, CREATE_COIN, RESERVE_FEE, CREATE_COIN_ANNOUNCEMENT, ASSERT_COIN_ANNOUNCEMENT, ASSERT_PUZZLE_ANNOUNCEMENT, ASSERT_CONCURRENT_SPEND, ASSERT_CONCURRENT_PUZZLE, SEND_MESSAGE, RECEIVE_MESSAGE, ASSERT_MY_COIN_ID, ASSERT_MY_PARENT_ID, ASSERT_MY_PUZZLEHASH, ASSERT_MY_AMOUNT, ASSERT_MY_BIRTH_SECONDS, ASSERT_MY_BIRTH_HEIGHT, ASSERT_EPHEMERAL, ASSERT_SECONDS_RELATIVE, ASSERT_SECONDS_ABSOLUTE, ASSERT_HEIGHT_RELATIVE, ASSERT_HEIGHT_ABSOLUTE, ASSERT_BEFORE_SECONDS_RELATIVE, ASSERT_BEFORE_SECONDS_ABSOLUTE, ASSERT_BEFORE_HEIGHT_RELATIVE, ASSERT_BEFORE_HEIGHT_ABSOLUTE}
 use Rattle.cond_spec.specs.Conditions.{conditions_of}
-use Rattle.cond_spec.proofs.ConditionRows.{bytes32, hash, key, text, condition}
 use Rattle.judge_spec.specs.Facts.{facts_of}
-use Rattle.judge_spec.specs.Judgement.{Verdict, Fine, Broken, judgement}
-use Rattle.judge_spec.proofs.RowParts.{quoting, spend_by, asks, ledger, there, gone, verdict, on_chain, number, hash_operand, pays, wrong_amount, other_birth, early, late, unmade, absent, ephemeral, sends, receives, reserves, signs, malformed, unknown, fails, wide, other_puzzle, makes, spends_made, both, made_and_signs, coin_of_signs}
+use Rattle.judge_spec.specs.Judgement.{Broken, judgement}
+use Rattle.judge_spec.proofs.RowParts.{spend_by, asks, there, gone, verdict, on_chain, pays, wrong_amount, other_birth, early, late, unmade, absent, ephemeral, sends, reserves, signs, malformed, unknown, fails, wide, other_puzzle, made_and_signs, coin_of_signs}
 
 -- ---- two at once
 
@@ -100,3 +89,33 @@ rules_21_and_22 = refl
 rules_22_and_23 : verdict 11_000_000_000 (there made_and_signs ∷ record { coin = coin_of_signs; height = 4; seconds = 400; spent = None } ∷ []) (made_and_signs ∷ []) ≡ Broken 22 0
 unfolding judgement facts_of conditions_of evaluation head_at tree_at_front without_sign_bytes shortest_atom sha256 digest_bytes hash_after compress rounds schedule first_words
 rules_22_and_23 = refl
+
+rules_7_and_8 : on_chain (asks (malformed ∷ unknown ∷ []) ∷ []) ≡ Broken 7 0
+unfolding judgement facts_of conditions_of evaluation head_at tree_at_front without_sign_bytes shortest_atom sha256 digest_bytes hash_after compress rounds schedule first_words
+rules_7_and_8 = refl
+
+rules_8_and_9 : on_chain (asks (pays 7 ∷ pays 7 ∷ unknown ∷ []) ∷ []) ≡ Broken 8 0
+unfolding judgement facts_of conditions_of evaluation head_at tree_at_front without_sign_bytes shortest_atom sha256 digest_bytes hash_after compress rounds schedule first_words
+rules_8_and_9 = refl
+
+-- ---- the order of spends and rules
+
+-- The cost of the list is asked after rule 10 of the same spend,
+the_cost_of_the_list_after_rule_10 : verdict 500_000 [] (asks (wrong_amount ∷ []) ∷ []) ≡ Broken 10 0
+unfolding judgement facts_of conditions_of evaluation head_at tree_at_front without_sign_bytes shortest_atom sha256 digest_bytes hash_after compress rounds schedule first_words
+the_cost_of_the_list_after_rule_10 = refl
+
+-- and before rule 3 of the next.
+the_cost_of_the_list_before_the_next_spend : verdict 500_000 [] (asks [] ∷ other_puzzle (asks (pays 900 ∷ [])) ∷ []) ≡ Broken 5 0
+unfolding judgement facts_of conditions_of evaluation head_at tree_at_front without_sign_bytes shortest_atom sha256 digest_bytes hash_after compress rounds schedule first_words
+the_cost_of_the_list_before_the_next_spend = refl
+
+-- Up to rule 10 all rules are asked of the first spend, then of the next.
+rule_10_of_the_first_spend : on_chain (asks (wrong_amount ∷ []) ∷ other_puzzle (asks (pays 900 ∷ [])) ∷ []) ≡ Broken 10 0
+unfolding judgement facts_of conditions_of evaluation head_at tree_at_front without_sign_bytes shortest_atom sha256 digest_bytes hash_after compress rounds schedule first_words
+rule_10_of_the_first_spend = refl
+
+-- From rule 11 on each rule is asked of all spends, then the next rule.
+rule_14_of_the_second_spend : on_chain (asks (late ∷ []) ∷ asks (early ∷ []) ∷ []) ≡ Broken 14 1
+unfolding judgement facts_of conditions_of evaluation head_at tree_at_front without_sign_bytes shortest_atom sha256 digest_bytes hash_after compress rounds schedule first_words
+rule_14_of_the_second_spend = refl

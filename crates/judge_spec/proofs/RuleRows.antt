@@ -1,27 +1,16 @@
 -- Verdicts on lists of spends, computed: each rule broken, with its place.
-use Rattle.std.proofs.Common.{◌≡◌, ℕ, ◌+◌, ◌*◌, Some, None, List, [], ◌∷◌, ◌++◌, map, replicate, refl}
+use Rattle.std.proofs.Common.{◌≡◌, ◌+◌, ◌*◌, [], ◌∷◌, refl}
 use Rattle.sha2.specs.Sha256.{sha256, digest_bytes, hash_after, compress, rounds, schedule, first_words}
-use Rattle.clvm_spec.specs.Tree.{Tree, Atom, Pair, nil, list_tree}
-use Rattle.clvm_spec.specs.Spelling.{spelling}
-use Rattle.clvm_spec.specs.Hashing.{tree_hash}
 use Rattle.clvm_spec.specs.Reading.{head_at, tree_at_front}
 use Rattle.clvm_spec.specs.Numbers.{without_sign_bytes, shortest_atom}
 use Rattle.clvm_spec.specs.OperatorTable.{applied, operator_of}
 use Rattle.clvm_spec.specs.Evaluation.{evaluation}
-use Rattle.coin_facts.specs.declared.hash32.Hash32.{Hash32}
-use Rattle.coin_facts.specs.declared.coin.Coin.{Coin}
-use Rattle.coin_facts.specs.CoinId.{coin_id}
-use Rattle.coin_facts.specs.Atoms.{number_atom}
-use Rattle.block_spec.specs.declared.spend.Spend.{Spend}
-use Rattle.block_spec.specs.declared.attested.Signed.{Signed}
-use Rattle.chain_spec.specs.declared.chain.Record.{Record}
-use Rattle.chain_spec.specs.Chain.{Ledger}
-use Rattle.cond_spec.specs.declared.codes.TheConstants.{AGG_SIG_UNSAFE, CREATE_COIN, RESERVE_FEE, CREATE_COIN_ANNOUNCEMENT, ASSERT_COIN_ANNOUNCEMENT, ASSERT_PUZZLE_ANNOUNCEMENT, ASSERT_CONCURRENT_SPEND, ASSERT_CONCURRENT_PUZZLE, SEND_MESSAGE, RECEIVE_MESSAGE, ASSERT_MY_COIN_ID, ASSERT_MY_PARENT_ID, ASSERT_MY_PUZZLEHASH, ASSERT_MY_AMOUNT, ASSERT_MY_BIRTH_SECONDS, ASSERT_MY_BIRTH_HEIGHT, ASSERT_EPHEMERAL, ASSERT_SECONDS_RELATIVE, ASSERT_SECONDS_ABSOLUTE, ASSERT_HEIGHT_RELATIVE, ASSERT_HEIGHT_ABSOLUTE, ASSERT_BEFORE_SECONDS_RELATIVE, ASSERT_BEFORE_SECONDS_ABSOLUTE, ASSERT_BEFORE_HEIGHT_RELATIVE, ASSERT_BEFORE_HEIGHT_ABSOLUTE}
+use Rattle.cond_spec.specs.declared.codes.TheConstants.{ASSERT_HEIGHT_RELATIVE}
 use Rattle.cond_spec.specs.Conditions.{conditions_of}
-use Rattle.cond_spec.proofs.ConditionRows.{bytes32, hash, key, text, condition}
+use Rattle.cond_spec.proofs.ConditionRows.{condition}
 use Rattle.judge_spec.specs.Facts.{facts_of}
-use Rattle.judge_spec.specs.Judgement.{Verdict, Fine, Broken, judgement}
-use Rattle.judge_spec.proofs.RowParts.{quoting, spend_by, asks, ledger, there, gone, verdict, on_chain, number, hash_operand, pays, wrong_amount, other_birth, early, late, unmade, absent, ephemeral, sends, receives, reserves, signs, malformed, unknown, fails, wide, other_puzzle, makes, spends_made, both, made_and_signs, coin_of_signs}
+use Rattle.judge_spec.specs.Judgement.{Fine, Broken, judgement}
+use Rattle.judge_spec.proofs.RowParts.{quoting, spend_by, asks, there, gone, verdict, on_chain, number, pays, wrong_amount, other_birth, early, late, unmade, absent, ephemeral, sends, reserves, signs, malformed, unknown, fails, wide, other_puzzle, makes, spends_made, both}
 
 -- ---- each rule
 

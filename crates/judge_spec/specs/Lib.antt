@@ -6,3 +6,7 @@ pub mod Checks
 pub mod Judgement
 pub mod BlockJudgement
 pub mod JudgeLaws
+pub mod Agreement
+pub mod FineLaws
+pub mod ConnectLaws
+pub mod GrowthLaws

@@ -12,7 +12,7 @@ use Rattle.lisp_read.specs.FormLists.{form_elements, form_list, headed, single, 
 use Rattle.lisp_spec.specs.Parameters.{Side, ToFirst, ToRest, Parameter, parameters, path_of}
 use Rattle.lisp_spec.specs.Quoted.{quoted_form, symbol_tree}
 use Rattle.clvm_spec.specs.Currying.{quote_of}
-use Rattle.lisp_spec.specs.Environments.{step_name, part_of_operand, expression_at}
+use Rattle.lisp_spec.specs.OperandForms.{step_name, part_of_operand, expression_at}
 use Rattle.lisp_spec.specs.Weights.{tree_weight}
 use Rattle.lisp_spec.specs.ModuleFaults.{is_among}
 use Rattle.lisp_spec.specs.FormParts.{Expression, Operands, Template, OneTemplate}

@@ -54,13 +54,13 @@ unfolding Eventually
 settled_code source code s = (s.0, λ more le. s.1 more le ∙ sym (s.1 s.0 (omega arith)), s.1 s.0 (omega arith))
 
 pub modules_have_code : ModulesHaveCode
-modules_have_code source ends =
+modules_have_code source bound ends =
     let code = last_made (codes_of source) ends in
     let at = settled_code source (whole_code source code) (module_limit source code (last_limits (codes_of source) ends)) in
     record {
       code = code;
       are_codes = last_step (codes_of source) ends;
-      agrees = subst (Agrees source) at.2 (code_agrees source at.0 at.1);
+      agrees = subst (Agrees source) at.2 (code_agrees source at.0 at.1 bound);
       within = subst (λ code. length (spelling code) ≤ module_bound source) at.2 (module_fits source ends at.0);
     }
 

@@ -6,6 +6,7 @@ use Rattle.clvm_spec.specs.Spelling.{spelling}
 use Rattle.lisp_spec.specs.Forms.{Form}
 use Rattle.lisp_spec.specs.Modules.{Module}
 use Rattle.lisp_spec.specs.Agreement.{Agrees}
+use Rattle.lisp_spec.specs.ModuleLaws.{AreBound}
 use Rattle.lisp_spec.specs.CycleLaws.{HasNoCycle}
 use Rattle.lisp_spec.specs.ExpressionWeights.{module_bound}
 use Rattle.lisp_code.specs.Names.{Names}
@@ -22,9 +23,9 @@ pub record HasCode (source : Module) : Type 0 where
   pub agrees : Agrees source (whole_code source code)
   pub within : length (spelling (whole_code source code)) ≤ module_bound source
 
--- Where no inline reaches itself there are such codes.
+-- Where each body is an expression and no inline reaches itself there are such codes.
 abbrev pub ModulesHaveCode : Type 0
-ModulesHaveCode = (source : Module) → HasNoCycle source → HasCode source
+ModulesHaveCode = (source : Module) → AreBound source → HasNoCycle source → HasCode source
 
 -- Trees that are like codes, but with one pair more around each code that an expression goes on with. So the tree of an
 -- expression has more nodes than all those together of what its code is made of: a measure of the work. Only `qq` and

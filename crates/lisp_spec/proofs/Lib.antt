@@ -6,6 +6,7 @@ pub mod Settled
 pub mod MacroCases
 mod ExpansionRows
 mod TurnRows
+pub mod Reading
 pub mod Sources
 mod MeaningRows
 pub mod ModuleCases
@@ -17,8 +18,14 @@ mod TextMeaningRows
 mod BuiltInRows
 mod FaultTextRows
 pub mod MeaningProofs
+pub mod FormEnvironments
+pub mod FormMeaning
+pub mod FormMeaningProofs
 pub mod ModuleProofs
 pub mod ConstantProofs
+pub mod NamesFound
+pub mod Widening
+pub mod FormsAgree
 pub mod BoundProofs
 pub mod WalkProofs
 pub mod CycleProofs

@@ -10,7 +10,8 @@ use Rattle.judge_spec.specs.Judgement.{judgement, terms_of}
 use Rattle.pool_spec.specs.FirstJudgement.{spent_amounts}
 use Rattle.coin_facts.specs.IdLists.{repeat_behind}
 use Rattle.pool_spec.specs.Payment.{is_payment}
-use Rattle.pool_spec.specs.Admission.{PoolState, admission, admission_by}
+use Rattle.pool_spec.specs.Pool.{PoolState}
+use Rattle.pool_spec.specs.FirstAdmission.{first_admission, admission_by}
 use Rattle.pool_core.specs.declared.payment.Payment.{Payment}
 use Rattle.pool_core.specs.declared.fault.AdmitFault.{AdmitFault}
 use Rattle.pool_core.specs.declared.fault.AdmitFault.TheVariants.{Refused, OutOfMemory}
@@ -21,7 +22,7 @@ use Rattle.pool_core.specs.Admissions.{IsRefusedBy}
 use Rattle.pool_core.proofs.JudgeLaws.{paid_ids-created, paid_amounts-created}
 
 -- What the verdict refuses, the admission refuses.
-pub refused-by_verdict : (state : PoolState) (bundle : Bundle) (fault : AdmitFault) → IsRefusal (judgement (terms_of state.limits) (ledger_of state.chain) bundle.spends bundle.attested) fault → IsRefusedBy (admission state bundle) fault
+pub refused-by_verdict : (state : PoolState) (bundle : Bundle) (fault : AdmitFault) → IsRefusal (judgement (terms_of state.limits) (ledger_of state.chain) bundle.spends bundle.attested) fault → IsRefusedBy (first_admission state bundle) fault
 refused-by_verdict state bundle (Refused rule place) verdict = ap (admission_by state bundle) verdict
 refused-by_verdict state bundle OutOfMemory verdict = tt
 

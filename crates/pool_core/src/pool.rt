@@ -1,7 +1,7 @@
 ghost use Rattle.std.specs.Prelude.{◌≡◌, ◌<◌, ◌^◌, [], ◌∷◌, ◌++◌, true, length, IfOk, IfErr, OnOk, OnErr};
 ghost use Rattle.pool_spec.specs.Payment.{is_payment};
-ghost use Rattle.pool_spec.specs.Admission.{admission, after_admission};
-ghost use Rattle.pool_spec.specs.Admission as answer;
+ghost use Rattle.pool_spec.specs.FirstAdmission.{first_admission, after_admission};
+ghost use Rattle.pool_spec.specs.FirstAdmission as answer;
 ghost use Rattle.pool_core.specs.JudgedItems.{IsJudged, AreJudged, bundles_of};
 ghost use Rattle.pool_core.specs.SpendPayments.{ArePayments};
 ghost use Rattle.pool_core.specs.PaymentSums.{pays_out};
@@ -44,7 +44,7 @@ pub struct Pool {
 
 impl Model for Pool {
     ghost use Rattle.std.specs.Prelude.{◌<◌, ◌^◌, length};
-    ghost use Rattle.pool_spec.specs.Admission.{PoolState};
+    ghost use Rattle.pool_spec.specs.Pool.{PoolState};
     ghost use Rattle.pool_core.specs.JudgedItems.{AreJudged, bundles_of};
 
     ghost Value = { PoolState };
@@ -109,9 +109,9 @@ impl Pool {
     pub fn admit(&mut self, alloc: Global, bundle: Bundle) -> Result<Admitted, AdmitFault>
         requires payment { is_payment self.old.chain bundle ≡ true }
         requires empty { self.old.bundles ≡ [] }
-        ensures admitted { IfOk result (λ a. admission self.old bundle ≡ answer.Admitted a.id a.fee a.cost a.replaced) }
+        ensures admitted { IfOk result (λ a. first_admission self.old bundle ≡ answer.Admitted a.id a.fee a.cost a.replaced) }
         ensures after { OnOk result (self.new ≡ after_admission self.old bundle) }
-        ensures refused { IfErr result (IsRefusedBy (admission self.old bundle)) }
+        ensures refused { IfErr result (IsRefusedBy (first_admission self.old bundle)) }
         ensures stays { OnErr result (self.new ≡ self.old) }
     {
         let limits = self.limits;

@@ -1,6 +1,6 @@
 -- The verdict that the pool's body works out so far, on payments alone: they break none of the rules but those below. Source:
 -- this project's own. What stands here goes when the pool judges all conditions.
-use Rattle.std.specs.Prelude.{ℕ, ◌+◌, ◌*◌, ◌-◌, ◌||◌, List, [], ◌∷◌, ◌++◌, length, nat_lt, map, Bool, not, Option, Some, None, option_and_then, option_map, unwrap_or, position, if◌then◌else◌}
+use Rattle.std.specs.Prelude.{ℕ, ◌+◌, ◌*◌, ◌-◌, ◌||◌, List, [], ◌∷◌, ◌++◌, length, nat_lt, map, Bool, not, Option, option_and_then, option_map, unwrap_or, position, if◌then◌else◌}
 use Rattle.std.specs.List.{sum_by, flat_map}
 use Rattle.coin_facts.specs.declared.hash32.Hash32.{Hash32}
 use Rattle.coin_facts.specs.declared.coin.Coin.{Coin}

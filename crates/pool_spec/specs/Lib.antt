@@ -1,7 +1,17 @@
+pub mod Shape
+pub mod Classes
+pub mod Fit
+pub mod Prices
+pub mod Replacement
+pub mod Pool
+pub mod Assembly
+pub mod PoolLaws
 pub mod FirstConditions
 pub mod FirstRuns
 pub mod FirstJudgement
 pub mod Payment
+pub mod FirstAdmission
+pub mod FirstLaws
 pub mod Admission
 pub mod Step
 pub mod History

@@ -9,7 +9,7 @@ use Rattle.clvm_eval.proofs.QuickLaws.{byte_is}
 use Rattle.clvm_eval.proofs.evaluate.begin_pair.Goals as goal
 
 pub returns-in-Some-as_pair : goal.returns-in-Some-as_pair
-returns-in-Some-as_pair c = rw c.no_operator.ensures (λ depth.
+returns-in-Some-as_pair c = rw c.no_operator_at.ensures (λ depth.
     let trees = c.args.trees.now in
     record {
       raised_known = tt;

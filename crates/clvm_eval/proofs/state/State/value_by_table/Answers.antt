@@ -9,8 +9,8 @@ use Rattle.clvm_eval.proofs.StateLaws.{AreKnown-take, AreKnown-drop}
 use Rattle.clvm_eval.proofs.FormLaws.{operands_seen, answer_taken, fault_of_all, other_part, answer_room, answer_there, answer_same}
 use Rattle.clvm_eval.proofs.state.State.value_by_table.Goals as goal
 
-pub apply-requires-clause-operands_known : goal.apply-requires-clause-operands_known
-apply-requires-clause-operands_known g c =
+pub table_answer-requires-clause-operands_known : goal.table_answer-requires-clause-operands_known
+table_answer-requires-clause-operands_known g c =
     let trees = c.args.trees.now in
     let start = c.len.result - c.args.frame.count in
     let seen = c.deref.result.now in
@@ -19,13 +19,13 @@ apply-requires-clause-operands_known g c =
 pub returns-in-Ok-clause-ok : goal.returns-in-Ok-clause-ok
 returns-in-Ok-clause-ok g c =
     let old = c.args.trees.now in
-    let new = c.apply.new.trees in
+    let new = c.table_answer.new.trees in
     let before = c.args.self.now in
     let frame = c.args.frame in
     let answer = c.in-Ok.answer in
     let mid = c.take_answer.new.self in
     let own = operands_seen before frame c.deref.result.now c.len.result c.len.ensures c.deref.ensures.value in
-    let gives = subst (λ ops. IsAnswer c.apply.new.trees (outcome_by (tree_at old frame.code.0) (trees_at old ops) before.left) answer) own c.in-Ok.ensures.gives in
+    let gives = subst (λ ops. IsAnswer c.table_answer.new.trees (outcome_by (tree_at old frame.code.0) (trees_at old ops) before.left) answer) own c.in-Ok.ensures.gives in
     let takes = answer_taken before c.take_answer.new.self frame answer c.len.result c.len.ensures c.take_answer.ensures in
     let there = answer_there old new before mid frame answer c.requires.opened c.in-Ok.ensures.grows c.in-Ok.ensures.few c.in-Ok.ensures.within gives takes in
     let room = answer_room old new before mid frame answer c.requires.opened c.in-Ok.ensures.grows c.in-Ok.ensures.few c.in-Ok.ensures.within gives takes in
@@ -35,7 +35,7 @@ returns-in-Ok-clause-ok g c =
 pub returns-in-Err-clause-fault : goal.returns-in-Err-clause-fault
 returns-in-Err-clause-fault g c =
     let old = c.args.trees.now in
-    let new = c.apply.new.trees in
+    let new = c.table_answer.new.trees in
     let before = c.args.self.now in
     let frame = c.args.frame in
     let grows = c.in-Err.ensures.grows in

@@ -1,0 +1,11 @@
+use Rattle.std.proofs.Common.{◌≡◌, true, Some}
+use Rattle.clvm_tree.specs.Nodes.{tree_at}
+use Rattle.coin_facts.specs.Atoms.{amount_of}
+use Rattle.cond_spec.specs.Parties.{names}
+use Rattle.cond_parse.proofs.ReadingLaws.{no_step, lacks_part}
+use Rattle.cond_parse.proofs.parts.amount_part.Goals as goal
+
+pub returns-in_err-amount-clause-takes : goal.returns-in_err-amount-clause-takes
+returns-in_err-amount-clause-takes c = no_step _ c.in_err-amount.field-0.0 _ (tree_at c.args.trees.now c.amount.new.operands.0) c.from_residual.ensures.1 (λ next.
+    let named : names 1 c.args.side ≡ true = cc in
+    lacks_part _ amount_of (tree_at c.args.trees.now c.args.operands.now.0) _ next named (c.in_err-amount.ensures.takes (λ value rest. next (Some value) rest)))

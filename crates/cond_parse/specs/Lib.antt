@@ -1,0 +1,3 @@
+pub mod Readings
+pub mod Faults
+pub mod Kinds

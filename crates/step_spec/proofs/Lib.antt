@@ -1,0 +1,2 @@
+pub mod HistoryLaws
+mod StepRows

@@ -1,0 +1,4 @@
+pub mod Commands
+pub mod Steps
+pub mod Histories
+pub mod StepLaws
