@@ -9,7 +9,7 @@ use Rattle.chia_sim.specs.Outside.{Reading, Writing, IsInput, IsTooLong, Writes,
 use Rattle.chia_sim.specs.declared.limits.TheConstants.{MOST_INPUT}
 use Rattle.chia_sim.specs.Outputs.{HasOutput, HasFault, IsInForm}
 use Rattle.chia_sim.specs.Headline.{IsOutput, IsFault, Ends, Finished, Refused, NoCommand, ReadFault, WriteFault, NoMemory, TooLong}
-use Rattle.chia_sim.specs.Causes.{IsRun, EndsWith, IsComplete, NamesFault, NamesTooLong}
+use Rattle.chia_sim.specs.Causes.{IsRead, EndsWith, IsComplete, NamesFault, NamesTooLong}
 use Rattle.chia_sim.specs.Stops.{HasCause, IsAnswer, IsAnswerTo, Finishes, words_of, status_of}
 use Rattle.chia_sim.specs.declared.answer.Answer.{Answer}
 use Rattle.chia_sim.specs.declared.answer.Answer.TheVariants as answer
@@ -58,15 +58,15 @@ output-or-fault (command.Eval cost as_text env) input output words out fault = a
 output-or-fault (command.Curry arguments) input output words out fault = absurd (search rules)
 
 -- the same of what was read
-fault-of : (said : Option Command) (reading : Reading) (writing : Writing) (it other : Command) (input words : List ℕ)
-    → IsRun said it reading writing input → said ≡ Some other → IsFault other reading words → HasFault it input words
-fault-of said reading writing it other input words run is fault =
+fault-of : (said : Option Command) (reading : Reading) (it other : Command) (input words : List ℕ)
+    → IsRead said it reading input → said ≡ Some other → IsFault other reading words → HasFault it input words
+fault-of said reading it other input words run is fault =
     subst (λ c. HasFault c input words) (same-command said it other run.words_are is)
     (subst (λ i. HasFault other i words) (input-is reading input fault.0 run.tells fault.1) fault.2)
 
-output-of : (said : Option Command) (reading : Reading) (writing : Writing) (it other : Command) (input output : List ℕ)
-    → IsRun said it reading writing input → said ≡ Some other → IsOutput other reading output → HasOutput it input output
-output-of said reading writing it other input output run is out =
+output-of : (said : Option Command) (reading : Reading) (it other : Command) (input output : List ℕ)
+    → IsRead said it reading input → said ≡ Some other → IsOutput other reading output → HasOutput it input output
+output-of said reading it other input output run is out =
     subst (λ c. HasOutput c input output) (same-command said it other run.words_are is)
     (subst (λ i. HasOutput other i output) (input-is reading input out.0 run.tells out.1) out.2)
 
@@ -74,33 +74,34 @@ some-none : {A : Type 0} (found : Option A) {x : A} → found ≡ Some x → fou
 some-none found is none = absurd (search rules)
 
 pub ends-complete : (said : Option Command) (reading : Reading) (writing : Writing) (status : ℕ) → Ends said reading writing status → IsComplete said reading writing status
-ends-complete said reading writing status (Finished other output so out writes is) it input run within form = inl is
-ends-complete said reading writing status (Refused other words so fault line is) it input run within form =
-    absurd (form-or-fault it input words form (fault-of said reading writing it other input words run so fault))
-ends-complete said reading writing status (NoCommand none same line is) it input run within form = absurd (some-none said run.words_are none)
-ends-complete said reading writing status (ReadFault other so fails line is) it input run within form = absurd (run.reads fails.rose)
-ends-complete said reading writing status (WriteFault other output so out fails is) it input run within form = absurd (run.writes fails.rose)
-ends-complete said reading writing status (NoMemory line is) it input run within form = inr is
-ends-complete said reading writing status (TooLong other so long line is) it input run within form =
+ends-complete said reading writing status (Finished other output so out writes is) it input run writable within form = inl is
+ends-complete said reading writing status (Refused other words so fault line is) it input run writable within form =
+    absurd (form-or-fault it input words form (fault-of said reading it other input words run so fault))
+ends-complete said reading writing status (NoCommand none same line is) it input run writable within form = absurd (some-none said run.words_are none)
+ends-complete said reading writing status (ReadFault other so fails line is) it input run writable within form = absurd (run.reads fails.rose)
+ends-complete said reading writing status (WriteFault other output so out fails is) it input run writable within form = absurd (writable fails.rose)
+ends-complete said reading writing status (NoMemory line is) it input run writable within form = inr is
+ends-complete said reading writing status (TooLong other so long line is) it input run writable within form =
     absurd (omega (arith, within, long-is reading input run.tells long))
 
-pub ends-fault : (said : Option Command) (reading : Reading) (writing : Writing) (status : ℕ) → Ends said reading writing status → NamesFault said reading writing status
+pub ends-fault : (said : Option Command) (reading : Reading) (writing : Writing) (status : ℕ) → Ends said reading writing status → NamesFault said reading status
 ends-fault said reading writing status (Finished other output so out writes is) it input words run within fault =
-    absurd (output-or-fault it input output words (output-of said reading writing it other input output run so out) fault)
+    absurd (output-or-fault it input output words (output-of said reading it other input output run so out) fault)
 ends-fault said reading writing status (Refused other line_words so has line is) it input words run within fault = inl is
 ends-fault said reading writing status (NoCommand none same line is) it input words run within fault = absurd (some-none said run.words_are none)
 ends-fault said reading writing status (ReadFault other so fails line is) it input words run within fault = absurd (run.reads fails.rose)
-ends-fault said reading writing status (WriteFault other output so out fails is) it input words run within fault = absurd (run.writes fails.rose)
+ends-fault said reading writing status (WriteFault other output so out fails is) it input words run within fault =
+    absurd (output-or-fault it input output words (output-of said reading it other input output run so out) fault)
 ends-fault said reading writing status (NoMemory line is) it input words run within fault = inr is
 ends-fault said reading writing status (TooLong other so long line is) it input words run within fault =
     absurd (omega (arith, within, long-is reading input run.tells long))
 
-pub ends-too_long : (said : Option Command) (reading : Reading) (writing : Writing) (status : ℕ) → Ends said reading writing status → NamesTooLong said reading writing status
+pub ends-too_long : (said : Option Command) (reading : Reading) (writing : Writing) (status : ℕ) → Ends said reading writing status → NamesTooLong said reading status
 ends-too_long said reading writing status (Finished other output so out writes is) it input run long = absurd (not-long reading input out.0 run.tells out.1 long)
 ends-too_long said reading writing status (Refused other words so fault line is) it input run long = absurd (not-long reading input fault.0 run.tells fault.1 long)
 ends-too_long said reading writing status (NoCommand none same line is) it input run long = absurd (some-none said run.words_are none)
 ends-too_long said reading writing status (ReadFault other so fails line is) it input run long = absurd (run.reads fails.rose)
-ends-too_long said reading writing status (WriteFault other output so out fails is) it input run long = absurd (run.writes fails.rose)
+ends-too_long said reading writing status (WriteFault other output so out fails is) it input run long = absurd (not-long reading input out.0 run.tells out.1 long)
 ends-too_long said reading writing status (NoMemory line is) it input run long = inr is
 ends-too_long said reading writing status (TooLong other so has line is) it input run long = inl is
 

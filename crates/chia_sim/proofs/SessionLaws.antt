@@ -7,7 +7,7 @@ use Rattle.serde_json.specs.declared.value.Value.{Value}
 use Rattle.chain_spec.specs.Chain.{Chain}
 use Rattle.pool_spec.specs.History.{Session}
 use Rattle.session_spec.specs.Steps.{◌>>=◌, all_of}
-use Rattle.session_spec.specs.FirstForm.{header, is_coin_line, coin_of, with_coins, with_commands, session_of_lines}
+use Rattle.session_spec.specs.FirstForm.{header, is_coin_line, coin_of, with_coins, with_commands, first_form_of_lines}
 use Rattle.session_spec.proofs.StartCoins.{started}
 use Rattle.session_spec.proofs.WithCoins.{with_coins-started}
 use Rattle.chia_sim.specs.declared.form.FormFault.{FormFault}
@@ -20,12 +20,12 @@ prefix_len-map p f [] = refl
 prefix_len-map p f (x ∷ xs) = ap (λ n. if p (f x) then 1 + n else 0) (prefix_len-map p f xs)
 
 -- The first line is the header, and as many coin lines as there are stand behind it.
-pub session_of_lines-started : (lines others coins commands : List Value) (first : Value) (chain : Chain) (count : ℕ) (s : Option Chain)
+pub first_form_of_lines-started : (lines others coins commands : List Value) (first : Value) (chain : Chain) (count : ℕ) (s : Option Chain)
     → lines ≡ first ∷ others → header (view first) ≡ Some chain → count ≡ prefix_len (λ line. is_coin_line (view line)) others
     → coins ≡ take count others → commands ≡ drop count others → started chain (all_of coin_of (map view coins)) ≡ s
-    → session_of_lines (map view lines) ≡ (s >>= λ t. with_commands t (map view commands))
-session_of_lines-started lines others coins commands first chain count s whole opens counted front back are =
-    ap (λ ls. session_of_lines (map view ls)) whole
+    → first_form_of_lines (map view lines) ≡ (s >>= λ t. with_commands t (map view commands))
+first_form_of_lines-started lines others coins commands first chain count s whole opens counted front back are =
+    ap (λ ls. first_form_of_lines (map view ls)) whole
     ∙ ap (λ h. h >>= λ c. with_coins c (prefix_len is_coin_line (map view others)) (map view others)) opens
     ∙ ap (λ n. with_coins chain n (map view others)) (prefix_len-map is_coin_line view others ∙ sym counted)
     ∙ with_coins-started chain count (map view others) s (ap (λ cs. started chain (all_of coin_of cs)) (take-map view count others ∙ ap (map view) (sym front)) ∙ are)

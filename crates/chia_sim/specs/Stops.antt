@@ -4,6 +4,8 @@ use Rattle.ports_io.specs.declared.source.InputFault.{InputFault}
 use Rattle.ports_io.specs.declared.source.InputFault.TheVariants as reading_fault
 use Rattle.session_spec.specs.Texts.{line_feed}
 use Rattle.tool_words.specs.declared.said.Command.{Command}
+use Rattle.tool_words.specs.declared.said.WordsFault.{WordsFault}
+use Rattle.tool_words.specs.declared.said.WordsFault.TheVariants as words_fault
 use Rattle.chia_sim.specs.Outside.{Reading, Writing, FailsToRead, IsTooLong, Writes, FailsToWrite}
 use Rattle.chia_sim.specs.Outputs.{HasOutput, HasFault}
 use Rattle.chia_sim.specs.Headline.{IsOutput, IsFault}
@@ -35,6 +37,10 @@ abbrev pub stop_of_input : InputFault → Stop
 stop_of_input reading_fault.Fault = ReadFault
 stop_of_input reading_fault.TooLong = TooLong
 stop_of_input reading_fault.OutOfMemory = OutOfMemory
+
+abbrev pub stop_of_words : WordsFault → Stop
+stop_of_words words_fault.Words = Words
+stop_of_words words_fault.OutOfMemory = OutOfMemory
 
 -- The text is the command's output for the input, or the line of a fault of it.
 abbrev pub IsAnswer : Command → List ℕ → Answer → Type 0

@@ -3,7 +3,7 @@ ghost use Rattle.std.specs.Prelude.{◌≡◌, ◌≤◌, codes, map, length, op
 ghost use Rattle.std.specs.List.{prefix_len};
 ghost use Rattle.serde_json.specs.View.{view};
 ghost use Rattle.session_spec.specs.Steps.{all_of};
-ghost use Rattle.session_spec.specs.FirstForm.{is_later, is_coin_line, is_command_line, has_defaults, one, header, coin_of, does, admitted_by, asked_by, default_limits, start_coins, with_commands, session_of_lines, session_of};
+ghost use Rattle.session_spec.specs.FirstForm.{is_later, is_coin_line, is_command_line, has_defaults, one, header, coin_of, does, admitted_by, asked_by, default_limits, start_coins, with_commands, first_form_of_lines, first_form_of};
 ghost use Rattle.chia_sim.specs.Reads.{Reads};
 ghost use Rattle.chia_sim.specs.Opening.{Opens};
 
@@ -173,7 +173,7 @@ fn with_commands(alloc: Global, store: Store, lines: &[Value]) -> Result<Opening
 }
 
 fn of_lines(alloc: Global, lines: &[Value]) -> Result<Opening, FormFault>
-    ensures { Opens (session_of_lines (map view lines.now)) result }
+    ensures { Opens (first_form_of_lines (map view lines.now)) result }
 {
     let (first, others) = lines.split_first().ok_or(FormFault::Unbuilt)?;
     let store = header(alloc, first).ok_or(FormFault::Unbuilt)?;
@@ -184,9 +184,9 @@ fn of_lines(alloc: Global, lines: &[Value]) -> Result<Opening, FormFault>
 
 /// Opens the session that an input says. `Unbuilt` comes exactly where the input is no session of the form that is
 /// built.
-#[tactic(auto, unfolding(session_spec::specs::FirstForm::session_of))]
+#[tactic(auto, unfolding(session_spec::specs::FirstForm::first_form_of))]
 pub(crate) fn open(alloc: Global, input: &[u8]) -> Result<Opening, FormFault>
-    ensures { Opens (session_of input.now) result }
+    ensures { Opens (first_form_of input.now) result }
 {
     if input.len() > MOST_SESSION {
         return Err(FormFault::Unbuilt);

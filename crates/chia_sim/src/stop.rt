@@ -1,10 +1,11 @@
 ghost use Rattle.std.specs.Prelude.{◌≡◌, ◌++◌};
 ghost use Rattle.session_spec.specs.Texts.{line_feed};
-ghost use Rattle.chia_sim.specs.Stops.{status_of, words_of, stop_of_input};
+ghost use Rattle.chia_sim.specs.Stops.{status_of, words_of, stop_of_input, stop_of_words};
 ghost use Rattle.chia_sim.specs.declared.stop.Stop.TheVariants as because;
 
 use coin_facts::OutOfMemory;
 use ports_io::InputFault;
+use tool_words::WordsFault;
 
 /// Why the program does no command.
 #[derive(Clone, Copy, Debug, PartialEq, Eq)]
@@ -60,5 +61,16 @@ impl From<OutOfMemory> for Stop {
 
     fn from(_: OutOfMemory) -> Stop {
         Stop::OutOfMemory
+    }
+}
+
+impl From<WordsFault> for Stop {
+    ghost from_gives = { λ fault stop. stop ≡ stop_of_words fault };
+
+    fn from(fault: WordsFault) -> Stop {
+        match fault {
+            WordsFault::Words => Stop::Words,
+            WordsFault::OutOfMemory => Stop::OutOfMemory,
+        }
     }
 }

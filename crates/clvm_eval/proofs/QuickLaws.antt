@@ -18,27 +18,8 @@ use Rattle.clvm_tree.specs.Nodes.{tree_at, single_byte}
 use Rattle.clvm_tree.specs.Operators.{trees_at, outcome_by}
 use Rattle.clvm_tree.specs.declared.Node.{Node}
 use Rattle.clvm_tree.specs.declared.operators.Answer.{Answer}
+use Rattle.clvm_tree.proofs.HeldNumbers.{is_held}
 use Rattle.clvm_eval.specs.Quick.{IsQuickOrNone, Quickly, IsNumber}
-
--- ---- the operands
-
-pub one_operand : (trees : List Tree) (nodes : List Node) (d : Node) → 1 ≤ length nodes → length nodes < 2 → trees_at trees nodes ≡ tree_at trees (get_or nodes 0 d).0 ∷ []
-one_operand trees [] d low high = absurd (omega arith)
-one_operand trees (a ∷ []) d low high = refl
-one_operand trees (a ∷ b ∷ nodes) d low high = absurd (omega arith)
-
-pub two_operands : (trees : List Tree) (nodes : List Node) (d : Node) → 2 ≤ length nodes → length nodes < 3 → trees_at trees nodes ≡ tree_at trees (get_or nodes 0 d).0 ∷ tree_at trees (get_or nodes 1 d).0 ∷ []
-two_operands trees [] d low high = absurd (omega arith)
-two_operands trees (a ∷ []) d low high = absurd (omega arith)
-two_operands trees (a ∷ b ∷ []) d low high = refl
-two_operands trees (a ∷ b ∷ e ∷ nodes) d low high = absurd (omega arith)
-
-pub three_operands : (trees : List Tree) (nodes : List Node) (d : Node) → 3 ≤ length nodes → length nodes < 4 → trees_at trees nodes ≡ tree_at trees (get_or nodes 0 d).0 ∷ tree_at trees (get_or nodes 1 d).0 ∷ tree_at trees (get_or nodes 2 d).0 ∷ []
-three_operands trees [] d low high = absurd (omega arith)
-three_operands trees (a ∷ []) d low high = absurd (omega arith)
-three_operands trees (a ∷ b ∷ []) d low high = absurd (omega arith)
-three_operands trees (a ∷ b ∷ e ∷ []) d low high = refl
-three_operands trees (a ∷ b ∷ e ∷ f ∷ nodes) d low high = absurd (omega arith)
 
 -- ---- an answer
 
@@ -83,13 +64,6 @@ equal_flag_is cost operands a b x y same list first second e =
 
 read_number : (place : ℕ) (tree : Tree) (n : ℤ) (size : ℕ) (is : IsNumber tree n size) (go : List ℕ → Applied) → number_at place tree go ≡ go is.bytes
 read_number place tree n size is go = ap (λ t. number_at place t go) is.is ∙ cond-true (is_short is.bytes) _ _ is.short
-
-fits : (n : ℤ) → FitsSigned w128 n → fits_128 n ≡ true
-fits (pos n) h = lt-ltb n (2 ^ 127) h.sfits
-fits (negsuc n) h = lt-ltb n (2 ^ 127) h.sfits
-
-pub is_held : (n : ℤ) → FitsSigned w128 n → if_fits n ≡ Some n
-is_held n h = cond-true _ _ _ (fits n h)
 
 pub number_written : (cost : ℕ) (n : ℤ) → FitsSigned w128 n → new_number cost n ≡ written cost (shortest_atom n)
 number_written cost n h = ap (λ held. or_wide held (λ n. written cost (shortest_atom n))) (is_held n h)

@@ -1,5 +1,5 @@
 //! A CLVM word: one spelled tree as hexadecimal, with no blank around it.
-ghost use Rattle.std.specs.Prelude.{◌≡◌, ◌+◌, ◌<◌, ◌≤◌, ◌^◌, length, IfOk, IsTrue};
+ghost use Rattle.std.specs.Prelude.{◌≡◌, ◌+◌, ◌<◌, ◌≤◌, ◌^◌, length, min, IfOk, IsTrue};
 ghost use Rattle.clvm_spec.specs.declared.limits.TheConstants.{MOST_SPELLED};
 ghost use Rattle.clvm_spec.specs.Spelled.{is_spelled, if_spelled, spelled_tree};
 ghost use Rattle.clvm_tree.specs.Nodes.{tree_at, IsKnown, Grows};
@@ -37,10 +37,10 @@ impl Word {
         self.bytes.as_slice()
     }
 
-    /// The tree that the word stands for, made among others. Earlier nodes stand, whatever the answer; without memory
-    /// there may be further nodes.
+    /// The tree that the word stands for, made among others, where there is room for as many nodes as the word has bytes.
+    /// Earlier nodes stand, whatever the answer; without memory there may be further nodes.
     pub fn read(&self, alloc: Global, trees: &mut Trees) -> Result<Node, OutOfMemory>
-        requires { length trees.old + MOST_SPELLED < 2 ^ 31 }
+        requires { length trees.old + min (length self.now) MOST_SPELLED < 2 ^ 31 }
         ensures grows { Grows trees.old trees.new }
         ensures few { length trees.new ≤ length trees.old + length self.now }
         ensures short { length self.now ≤ MOST_SPELLED }

@@ -19,7 +19,7 @@ use Rattle.clvm_tree.specs.declared.operators.OpFault.{OpFault}
 use Rattle.clvm_tree.specs.declared.operators.OpFault.TheVariants as fault
 use Rattle.clvm_tree.proofs.OperatorLaws.{answers_law}
 use Rattle.clvm_tree.proofs.NodeLaws.{grows_same}
-use Rattle.clvm_ops.proofs.Fits.{is_held}
+use Rattle.clvm_tree.proofs.HeldNumbers.{is_held}
 use Rattle.clvm_tree.specs.Operators.{KeepsNodes}
 use Rattle.clvm_ops.specs.Answering.{Answers, Yields, IsGiven, IsCharged}
 use Rattle.clvm_ops.specs.declared.application.Application.{Application}

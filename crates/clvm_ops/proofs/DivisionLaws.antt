@@ -12,7 +12,7 @@ use Rattle.clvm_spec.specs.Operators.{two_numbers, unless_zero, or_wide, written
 use Rattle.clvm_tree.specs.Nodes.{tree_at, Grows, Adds}
 use Rattle.clvm_tree.specs.declared.Node.{Node}
 use Rattle.clvm_tree.proofs.NodeLaws.{grows_same, stays}
-use Rattle.clvm_ops.proofs.Fits.{is_held}
+use Rattle.clvm_tree.proofs.HeldNumbers.{is_held}
 
 pub pair_some : (cost : ℕ) (q r n d : ℤ) → Some q ≡ if_fits (quotient n d) → r ≡ remainder n d → FitsSigned w128 r
     → new_pair_of_numbers cost (quotient n d) (remainder n d) ≡ written_pair cost (shortest_atom q) (shortest_atom r)

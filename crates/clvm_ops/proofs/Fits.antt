@@ -6,18 +6,12 @@ use Rattle.std.proofs.lemmas.Bool.{lt-ltb, le-ltb, cond-true, cond-false}
 use Rattle.std.proofs.lemmas.Int.{ints}
 use Rattle.std.specs.Int.{w128, int_shr, cast_unsigned}
 use Rattle.std.specs.Option.{SomeIff}
+use Rattle.clvm_tree.proofs.HeldNumbers.{is_held}
 use Rattle.clvm_spec.specs.Arithmetic.{fits_128, if_fits, shifted}
-
-fits : (n : ℤ) → FitsSigned w128 n → fits_128 n ≡ true
-fits (pos n) h = lt-ltb n (2 ^ 127) h.sfits
-fits (negsuc n) h = lt-ltb n (2 ^ 127) h.sfits
 
 unfit : (n : ℤ) → (FitsSigned w128 n → ⊥) → fits_128 n ≡ false
 unfit (pos n) h = le-ltb n (2 ^ 127) (omega (arith, λ (k : n < 2 ^ 127). h (record { sfits = k })))
 unfit (negsuc n) h = le-ltb n (2 ^ 127) (omega (arith, λ (k : n < 2 ^ 127). h (record { sfits = k })))
-
-pub is_held : (n : ℤ) → FitsSigned w128 n → if_fits n ≡ Some n
-is_held n h = cond-true _ _ _ (fits n h)
 
 not_held : (n : ℤ) → fits_128 n ≡ false → if_fits n ≡ None
 not_held n h = cond-false _ _ _ h

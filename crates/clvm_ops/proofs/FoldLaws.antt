@@ -14,7 +14,8 @@ use Rattle.clvm_tree.specs.Operators.{trees_at}
 use Rattle.clvm_tree.specs.declared.Node.{Node}
 use Rattle.clvm_ops.specs.OperandAtoms.{atoms_at, AreShort}
 use Rattle.clvm_ops.specs.Folds.{numbers_at}
-use Rattle.clvm_ops.proofs.Fits.{is_held, too_wide}
+use Rattle.clvm_tree.proofs.HeldNumbers.{is_held}
+use Rattle.clvm_ops.proofs.Fits.{too_wide}
 use Rattle.clvm_ops.proofs.NodeLists.{length-trees_at}
 
 pub short_at : (trees : List Tree) (nodes : List Node) (k : ℕ) (d : Node) → k < length nodes → AreShort trees nodes

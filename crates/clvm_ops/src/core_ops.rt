@@ -69,6 +69,13 @@ fn apply_code(
     requires fits { length trees.old + length operands.now + left.pairs + left.bytes < 2 ^ 31 }
     ensures { Answers trees.old trees.new (length operands.now) left (applied (code ∷ []) (trees_at trees.old operands.now)) result }
 {
+    // One for all arms: a function pays at its entry for each local that it has.
+    let mut application = Application {
+        alloc,
+        operands,
+        cost: 0,
+        left,
+    };
     macro_rules! arm {
         ($code:ident, $name:literal, $cost:ident, quote) => {
             Err(OpFault::NoOperator)
@@ -77,7 +84,10 @@ fn apply_code(
             Err(OpFault::NoOperator)
         };
         ($code:ident, $name:literal, $cost:ident, $operator:ident) => {
-            Application { alloc, operands, cost: costs::$cost, left }.$operator(trees)
+            {
+                application.cost = costs::$cost;
+                application.$operator(trees)
+            }
         };
     }
     by_operator!(code, arm, Err(OpFault::NoOperator))

@@ -8,3 +8,5 @@ pub mod DigitLaws
 pub mod PendingLaws
 pub mod OperatorLaws
 pub mod WholeLaws
+pub mod OperandLists
+pub mod HeldNumbers

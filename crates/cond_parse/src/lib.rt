@@ -14,3 +14,6 @@ pub use cond_spec::{Condition, Party};
 pub use cost::conditions_cost;
 pub use fault::CondFault;
 pub use listing::{Conditions, conditions};
+
+#[cfg(test)]
+mod tests;

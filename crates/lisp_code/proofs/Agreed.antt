@@ -4,15 +4,18 @@ use Rattle.clvm_spec.specs.declared.fuel.Fuel.{Fuel}
 use Rattle.clvm_spec.specs.Spending.{Spending}
 use Rattle.clvm_spec.specs.Tree.{Tree, Pair, list_tree}
 use Rattle.clvm_spec.specs.Outcomes as run
-use Rattle.clvm_spec.specs.Outcomes.{Outcome}
+use Rattle.clvm_spec.specs.Outcomes.{Why, Outcome}
 use Rattle.clvm_spec.specs.Evaluation.{evaluation, run_outcome}
 use Rattle.lisp_spec.specs.Forms.{Form}
 use Rattle.lisp_spec.specs.Modules.{Module, Definition}
 use Rattle.lisp_spec.specs.Parameters.{tree_at}
 use Rattle.clvm_spec.specs.Currying.{quote_of}
-use Rattle.lisp_spec.specs.Environments.{Environment, function_environment}
-use Rattle.lisp_spec.specs.Meaning.{Meaning, Value, Wide, Out, if_value, run_meaning, expression_meaning, meaning_within, meaning, module_meaning}
-use Rattle.lisp_spec.specs.Agreement.{HasValue, IsWide, RunsTo, RunsWide, Agrees}
+use Rattle.lisp_spec.proofs.FormEnvironments.{Environment, function_environment}
+use Rattle.lisp_spec.proofs.FormMeaning.{Meaning, Value, Failed, Wide, Out, if_value, run_meaning, expression_meaning, meaning_within, meaning, module_meaning}
+use Rattle.lisp_spec.specs.Meaning as meanings
+use Rattle.lisp_spec.specs.ModuleLaws.{AreBound}
+use Rattle.lisp_spec.proofs.BoundProofs.{module_is_its_forms}
+use Rattle.lisp_spec.specs.Agreement.{HasValue, IsWide, IsFailing, RunsTo, RunsWide, RunsAstray, Agrees, FailsAlike}
 use Rattle.lisp_code.proofs.Refining.{Refines, out, same, Covered}
 use Rattle.lisp_code.proofs.Enough.{Reaches, value, failed, wide, Enough}
 use Rattle.lisp_code.proofs.Enough as reaches
@@ -127,6 +130,12 @@ reached_wide need fuel m o e (failed why form) = cc
 reached_wide need fuel m o e wide = refl
 reached_wide need fuel m o e (reaches.out o') = cc
 
+reached_failure : (need : Spending) (fuel : Fuel) (m : Meaning) (o : Outcome) → m ≡ Failed → Reaches need fuel m o → (why : Why) × (form : Tree) × (o ≡ run.Failed why form)
+reached_failure need fuel m o e (value w left h) = absurd cc
+reached_failure need fuel m o e (failed why form) = (why, form, refl)
+reached_failure need fuel m o e wide = absurd cc
+reached_failure need fuel m o e (reaches.out o') = absurd cc
+
 module _ (m : ℕ) (program argument : Tree) where
   abbrev enough : Enough (plain m program argument) (evaluation program argument)
   enough = fuel_is_enough m program argument
@@ -143,9 +152,12 @@ module _ (m : ℕ) (program argument : Tree) where
   pub runs_wide : plain m program argument ≡ Wide → RunsWide program argument
   runs_wide e = (ample, reached_wide enough.need ample (plain m program argument) (evaluation program argument 0 ample) e ample_reaches)
 
+  pub runs_astray : plain m program argument ≡ Failed → RunsAstray program argument
+  runs_astray e = let r = reached_failure enough.need ample (plain m program argument) (evaluation program argument 0 ample) e ample_reaches in (ample, r.0, r.1, r.2)
+
 -- ---- both ways
 
-module _ (source : Module) (depth : ℕ) (is_settled : IsSettled source depth) (argument : Tree) where
+module _ (source : Module) (depth : ℕ) (is_settled : IsSettled source depth) (bound : AreBound source) (argument : Tree) where
   abbrev env : Environment
   env = function_environment source.params argument
 
@@ -171,20 +183,33 @@ module _ (source : Module) (depth : ℕ) (is_settled : IsSettled source depth) (
       let c = covered_from _ _ _ body_says (all_meant source depth m depth m (omega arith) source.body env (function_names source.params) argument (function_corresponds argument source.params)) in
       (c.0, sym (settled found _ c.1 not_out))
 
+  -- what the forms of the module mean is what it means
+  abbrev as_forms : (n : ℕ) → module_meaning source argument n ≡ meanings.module_meaning source argument n
+  as_forms n = module_is_its_forms source bound argument n
+
   to_value : (v : Tree) → HasValue source argument v → RunsTo (module_code source depth) argument v
-  to_value v h = let c = code_gives (Value v) (λ e. cc) h.0 h.1 in runs_to c.0 (module_code source depth) argument v c.1
+  to_value v h = let c = code_gives (Value v) (λ e. cc) h.0 (as_forms h.0 ∙ h.1) in runs_to c.0 (module_code source depth) argument v c.1
 
   to_wide : IsWide source argument → RunsWide (module_code source depth) argument
-  to_wide h = let c = code_gives Wide (λ e. cc) h.0 h.1 in runs_wide c.0 (module_code source depth) argument c.1
+  to_wide h = let c = code_gives Wide (λ e. cc) h.0 (as_forms h.0 ∙ h.1) in runs_wide c.0 (module_code source depth) argument c.1
 
   from_value : (v : Tree) → RunsTo (module_code source depth) argument v → HasValue source argument v
-  from_value v r = source_means (Value v) (λ e. cc) r.0 (ap run_meaning r.2)
+  from_value v r = let m = source_means (Value v) (λ e. cc) r.0 (ap run_meaning r.2) in (m.0, sym (as_forms m.0) ∙ m.1)
 
   from_wide : RunsWide (module_code source depth) argument → IsWide source argument
-  from_wide r = source_means Wide (λ e. cc) r.0 (ap run_meaning r.1)
+  from_wide r = let m = source_means Wide (λ e. cc) r.0 (ap run_meaning r.1) in (m.0, sym (as_forms m.0) ∙ m.1)
 
-pub code_agrees : (source : Module) (depth : ℕ) → IsSettled source depth → Agrees source (module_code source depth)
-code_agrees source depth is_settled = record {
-  value = λ argument v. (to_value source depth is_settled argument v, from_value source depth is_settled argument v);
-  wide = λ argument. (to_wide source depth is_settled argument, from_wide source depth is_settled argument);
+  to_failure : IsFailing source argument → RunsAstray (module_code source depth) argument
+  to_failure h = let c = code_gives Failed (λ e. cc) h.0 (as_forms h.0 ∙ h.1) in runs_astray c.0 (module_code source depth) argument c.1
+
+  from_failure : RunsAstray (module_code source depth) argument → IsFailing source argument
+  from_failure r = let m = source_means Failed (λ e. cc) r.0 (ap run_meaning r.3) in (m.0, sym (as_forms m.0) ∙ m.1)
+
+pub code_fails_alike : (source : Module) (depth : ℕ) → IsSettled source depth → AreBound source → FailsAlike source (module_code source depth)
+code_fails_alike source depth is_settled bound argument = (to_failure source depth is_settled bound argument, from_failure source depth is_settled bound argument)
+
+pub code_agrees : (source : Module) (depth : ℕ) → IsSettled source depth → AreBound source → Agrees source (module_code source depth)
+code_agrees source depth is_settled bound = record {
+  value = λ argument v. (to_value source depth is_settled bound argument v, from_value source depth is_settled bound argument v);
+  wide = λ argument. (to_wide source depth is_settled bound argument, from_wide source depth is_settled bound argument);
 }

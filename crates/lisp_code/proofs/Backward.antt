@@ -17,9 +17,10 @@ use Rattle.lisp_read.specs.FormLists.{form_elements, single, is_symbol}
 use Rattle.lisp_spec.specs.Parameters.{Side, ToRest, tree_at}
 use Rattle.lisp_spec.specs.Quoted.{quoted_form, symbol_tree}
 use Rattle.clvm_spec.specs.Currying.{quote_of}
-use Rattle.lisp_spec.specs.Environments.{Environment, Binding, function_environment}
-use Rattle.lisp_spec.specs.Meaning.{Meaning, Value, Failed, Wide, Out, Means, if_value, operator_meaning, run_meaning, all_counts, run_values, operate, constant_meaning, name_meaning, function_call, inline_call, chosen, quoted_operand, template_pair, call, by_head, expression_meaning, operand_values, choice_meaning, template_meaning, only_expression, only_template, meaning_within}
-use Rattle.lisp_spec.proofs.MeaningProofs.{refines_expression, refines_operands, refines_template, refines_operate, larger_within}
+use Rattle.lisp_spec.proofs.FormEnvironments.{Environment, Binding, function_environment}
+use Rattle.lisp_spec.proofs.FormMeaning.{Meaning, Value, Failed, Wide, Out, Means, if_value, operator_meaning, run_meaning, all_counts, run_values, operate, constant_meaning, name_meaning, function_call, inline_call, chosen, quoted_operand, template_pair, call, by_head, expression_meaning, operand_values, choice_meaning, template_meaning, only_expression, only_template, meaning_within}
+use Rattle.lisp_spec.proofs.MeaningProofs.{refines_operate}
+use Rattle.lisp_spec.proofs.FormMeaningProofs.{refines_expression, refines_operands, refines_template, larger_within}
 use Rattle.lisp_code.proofs.Refining.{Refines, out, same, Covered, Rises}
 use Rattle.lisp_code.proofs.Enough.{Reaches, value, failed, wide, Enough}
 use Rattle.lisp_code.proofs.Enough as reaches
@@ -111,7 +112,7 @@ module _ (source : Module) (table : Tree) (most : ℕ)
   template_rises e env a b le = refines_template source a b le (further_of source a) (further_of source b) (rises_further source a b le) e env
 
   operate_rises : (code : ℕ) (values : List Tree) → Rises (λ n. operate n code values)
-  operate_rises code values a b le = refines_operate source a b le (further_of source a) (further_of source b) (rises_further source a b le) code values
+  operate_rises code values a b le = refines_operate a b le code values
 
   module _ (argument : Tree) where
     unfoldable pub There : (ℕ → Meaning) → Tree → Type 0

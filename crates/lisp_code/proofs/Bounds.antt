@@ -12,15 +12,15 @@ use Rattle.lisp_read.specs.FormLists.{form_elements, form_list, headed, single, 
 use Rattle.lisp_spec.specs.Parameters.{Side, ToFirst, ToRest, Parameter, parameters, path_of}
 use Rattle.lisp_spec.specs.Quoted.{quoted_form, symbol_tree}
 use Rattle.clvm_spec.specs.Currying.{quote_of}
-use Rattle.lisp_spec.specs.Environments.{step_name, part_of_operand, expression_at}
+use Rattle.lisp_spec.specs.OperandForms.{step_name, part_of_operand, expression_at}
 use Rattle.lisp_spec.specs.Weights.{tree_weight}
 use Rattle.lisp_spec.specs.ModuleFaults.{is_among}
 use Rattle.lisp_spec.specs.FormParts.{Expression, Operands, Template, OneTemplate}
-use Rattle.lisp_spec.specs.Cycles.{head_calls, calls_in}
-use Rattle.lisp_spec.specs.CycleLaws.{HasNoCycle, weight_of}
-use Rattle.lisp_spec.specs.ExpressionWeights as shares
-use Rattle.lisp_spec.specs.ExpressionWeights.{Standing, own, Share, Shares, Whole, At, Filled, OneFilled, as_tree, constant_share, symbol_share, quoted_share, inline_share, headed_share, pair_share, share_at, weighed, expression_weight, definition_weight, code_weight, module_bound}
-use Rattle.lisp_spec.proofs.NestingProofs.{Shallow, shallow, weight_is_its_step}
+use Rattle.lisp_spec.proofs.FormCycles.{head_calls, calls_in}
+use Rattle.lisp_spec.proofs.FormCycleLaws.{HasNoCycle, weight_of}
+use Rattle.lisp_spec.proofs.FormWeights as shares
+use Rattle.lisp_spec.proofs.FormWeights.{Standing, own, Share, Shares, Whole, At, Filled, OneFilled, as_tree, constant_share, symbol_share, quoted_share, inline_share, headed_share, pair_share, share_at, weighed, expression_weight, definition_weight, code_weight, module_bound}
+use Rattle.lisp_spec.proofs.FormNestingProofs.{Shallow, shallow, weight_is_its_step}
 use Rattle.std.proofs.lemmas.List.Sums.{sum_by-cons}
 use Rattle.lisp_code.specs.Names.{Names, Named, PathTo, NoPath, ExpressionOf, NoName, named, paths_bound, function_names, deferring, deferred, inline_names}
 use Rattle.lisp_code.specs.Pieces.{operator_code, path_code, failing, pair_code, list_code, if_code}

@@ -4,7 +4,7 @@ use Rattle.clvm_spec.specs.Tree.{Tree, list_tree}
 use Rattle.lisp_spec.specs.Forms.{Form}
 use Rattle.lisp_spec.specs.Modules.{Definition}
 use Rattle.lisp_spec.specs.Parameters.{Side, tree_at}
-use Rattle.lisp_spec.specs.Environments.{Environment, Empty, Bound, Astray, Stands, Binding, ToTree, ToNoStep, ToExpression, ToNothing}
+use Rattle.lisp_spec.proofs.FormEnvironments.{Environment, Empty, Bound, Astray, Stands, Binding, ToTree, ToNoStep, ToExpression, ToNothing}
 use Rattle.lisp_code.specs.Names.{Names, Nowhere, AtPath, Missing, Deferred, Named, PathTo, NoPath, ExpressionOf, NoName}
 use Rattle.lisp_code.specs.Pieces.{list_path}
 

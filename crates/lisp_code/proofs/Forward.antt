@@ -12,8 +12,8 @@ use Rattle.lisp_read.specs.FormLists.{form_elements, single, is_symbol}
 use Rattle.lisp_spec.specs.Parameters.{Side, ToRest, tree_at}
 use Rattle.lisp_spec.specs.Quoted.{quoted_form, symbol_tree}
 use Rattle.clvm_spec.specs.Currying.{quote_of}
-use Rattle.lisp_spec.specs.Environments.{Environment, Binding, function_environment}
-use Rattle.lisp_spec.specs.Meaning.{Meaning, Value, Failed, Means, if_value, operator_meaning, all_counts, run_values, operate, constant_meaning, name_meaning, function_call, inline_call, chosen, quoted_operand, template_pair, call, by_head, expression_meaning, operand_values, choice_meaning, template_meaning, only_expression, only_template}
+use Rattle.lisp_spec.proofs.FormEnvironments.{Environment, Binding, function_environment}
+use Rattle.lisp_spec.proofs.FormMeaning.{Meaning, Value, Failed, Means, if_value, operator_meaning, all_counts, run_values, operate, constant_meaning, name_meaning, function_call, inline_call, chosen, quoted_operand, template_pair, call, by_head, expression_meaning, operand_values, choice_meaning, template_meaning, only_expression, only_template}
 use Rattle.lisp_code.proofs.Refining.{same, Covered, Rises}
 use Rattle.lisp_code.proofs.Plain.{plain_run, plain_apply, plain_values, plain}
 use Rattle.lisp_code.proofs.Plain.{found_meaning}

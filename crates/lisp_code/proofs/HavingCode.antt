@@ -5,9 +5,10 @@ use Rattle.clvm_spec.specs.Spelling.{spelling}
 use Rattle.lisp_spec.specs.Forms.{Form}
 use Rattle.lisp_spec.specs.Modules.{Module, Definition}
 use Rattle.clvm_spec.specs.Currying.{quote_of}
-use Rattle.lisp_spec.specs.Agreement.{Agrees}
-use Rattle.lisp_spec.specs.CycleLaws.{HasNoCycle}
-use Rattle.lisp_spec.specs.ExpressionWeights.{module_bound}
+use Rattle.lisp_spec.specs.Agreement.{Agrees, FailsAlike}
+use Rattle.lisp_spec.proofs.FormCycleLaws.{HasNoCycle}
+use Rattle.lisp_spec.proofs.FormWeights as forms
+use Rattle.lisp_spec.proofs.FormsWeigh.{bound_is_that_of_forms, forms_have_no_cycle}
 use Rattle.lisp_code.specs.Names.{Names, function_names}
 use Rattle.lisp_code.specs.Pieces.{operator_code, pair_code, path_code}
 use Rattle.lisp_code.specs.Code.{Codes, expression_code, definition_code, whole_code}
@@ -17,7 +18,7 @@ use Rattle.lisp_code.proofs.Eventually.{Eventually, eventually_same, eventually_
 use Rattle.lisp_code.proofs.Making.{marked, Making}
 use Rattle.lisp_code.proofs.Settling.{each_settles}
 use Rattle.lisp_code.proofs.Limits.{limit_is_its_step}
-use Rattle.lisp_code.proofs.Agreed.{code_agrees}
+use Rattle.lisp_code.proofs.Agreed.{code_agrees, code_fails_alike}
 use Rattle.lisp_code.proofs.Bounds.{module_fits}
 
 module _ (it : Making) (ends : HasNoCycle it.source) where
@@ -54,14 +55,17 @@ unfolding Eventually
 settled_code source code s = (s.0, λ more le. s.1 more le ∙ sym (s.1 s.0 (omega arith)), s.1 s.0 (omega arith))
 
 pub modules_have_code : ModulesHaveCode
-modules_have_code source ends =
+modules_have_code source bound no_cycle =
+    let ends = forms_have_no_cycle source bound no_cycle in
     let code = last_made (codes_of source) ends in
     let at = settled_code source (whole_code source code) (module_limit source code (last_limits (codes_of source) ends)) in
     record {
       code = code;
       are_codes = last_step (codes_of source) ends;
-      agrees = subst (Agrees source) at.2 (code_agrees source at.0 at.1);
-      within = subst (λ code. length (spelling code) ≤ module_bound source) at.2 (module_fits source ends at.0);
+      agrees = subst (Agrees source) at.2 (code_agrees source at.0 at.1 bound);
+      fails = subst (FailsAlike source) at.2 (code_fails_alike source at.0 at.1 bound);
+      within = subst (λ n. length (spelling (whole_code source code)) ≤ n) (bound_is_that_of_forms source bound)
+          (subst (λ code. length (spelling code) ≤ forms.module_bound source) at.2 (module_fits source ends at.0));
     }
 
 -- ---- the work
@@ -74,4 +78,4 @@ abbrev measured_of : Module → Making
 measured_of source = record { source = source; mark = Pair nil; made = measured_within source; step = λ b e names. refl }
 
 pub work_ends : WorkEnds
-work_ends source ends = (last_made (measured_of source) ends, last_step (measured_of source) ends)
+work_ends source bound no_cycle = let ends = forms_have_no_cycle source bound no_cycle in (last_made (measured_of source) ends, last_step (measured_of source) ends)

@@ -13,7 +13,7 @@ use Rattle.lisp_spec.specs.declared.head.Head.{Head}
 use Rattle.lisp_spec.specs.declared.head.Head.TheVariants.{Operates}
 use Rattle.lisp_spec.specs.Heads.{head_of, operator_head, is_q, is_quote, is_qq, is_unquote, is_if, is_list}
 use Rattle.lisp_spec.specs.Parameters.{Side, Parameter, parameters, tree_at}
-use Rattle.lisp_spec.specs.Environments.{Environment, Binding, binding_of, bound_to, trees_bound, function_environment, expression_at, standing, expressions_bound, inline_environment}
+use Rattle.lisp_spec.proofs.FormEnvironments.{Environment, Binding, binding_of, bound_to, trees_bound, function_environment, expression_at, standing, expressions_bound, inline_environment}
 use Rattle.lisp_code.specs.Names.{Names, AtPath, Named, named, paths_bound, function_names, deferring, deferred, inline_names}
 use Rattle.lisp_code.specs.Code.{index_of}
 use Rattle.lisp_code.proofs.Corresponding.{Corresponds, empty, at_tree, at_none, missing, stands, SameName, to_tree, to_no_step, no_path, expression, nothing, Located, here, nowhere}

@@ -12,15 +12,15 @@ use Rattle.lisp_read.specs.FormLists.{form_elements, form_list, headed, single, 
 use Rattle.lisp_spec.specs.Parameters.{Side, ToFirst, ToRest, Parameter, parameters}
 use Rattle.lisp_spec.specs.Quoted.{quoted_form, symbol_tree}
 use Rattle.clvm_spec.specs.Currying.{quote_of}
-use Rattle.lisp_spec.specs.Environments.{step_name, part_of_operand, expression_at}
+use Rattle.lisp_spec.specs.OperandForms.{step_name, part_of_operand, expression_at}
 use Rattle.lisp_spec.specs.ModuleFaults.{is_among}
 use Rattle.lisp_spec.specs.FormParts.{Expression, Operands, Template, OneTemplate}
-use Rattle.lisp_spec.specs.Cycles.{head_calls, calls_in}
+use Rattle.lisp_spec.proofs.FormCycles.{head_calls, calls_in}
 use Rattle.std.specs.List.{AllByRecursion}
-use Rattle.lisp_spec.specs.CycleLaws.{HasNoCycle}
+use Rattle.lisp_spec.proofs.FormCycleLaws.{HasNoCycle}
 use Rattle.std.proofs.lemmas.Bool.{cases_Bool}
 use Rattle.lisp_spec.proofs.CycleProofs.{same_is}
-use Rattle.lisp_spec.proofs.NestingProofs.{Shallow, shallow}
+use Rattle.lisp_spec.proofs.FormNestingProofs.{Shallow, shallow}
 use Rattle.lisp_code.specs.Names.{Names, Nowhere, AtPath, Missing, Deferred, Named, PathTo, NoPath, ExpressionOf, NoName, named, paths_bound, deferring, deferred, inline_names}
 use Rattle.lisp_code.specs.Pieces.{operator_code, path_code, failing, pair_code, list_code, if_code}
 use Rattle.lisp_code.specs.Code.{index_of, with_operands, function_code_call, constant_code, quoted_code, name_code, inline_code, template_code_pair, code_of_call, code_by_head, expression_code, operand_codes, choice_code, template_code, only_expression_code, only_template_code}

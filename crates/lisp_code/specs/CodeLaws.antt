@@ -5,7 +5,8 @@ use Rattle.clvm_spec.specs.Tree.{Pair, nil}
 use Rattle.clvm_spec.specs.Spelling.{spelling}
 use Rattle.lisp_spec.specs.Forms.{Form}
 use Rattle.lisp_spec.specs.Modules.{Module}
-use Rattle.lisp_spec.specs.Agreement.{Agrees}
+use Rattle.lisp_spec.specs.Agreement.{Agrees, FailsAlike}
+use Rattle.lisp_spec.specs.ModuleLaws.{AreBound}
 use Rattle.lisp_spec.specs.CycleLaws.{HasNoCycle}
 use Rattle.lisp_spec.specs.ExpressionWeights.{module_bound}
 use Rattle.lisp_code.specs.Names.{Names}
@@ -15,16 +16,17 @@ use Rattle.lisp_code.specs.Code.{Codes, expression_code, whole_code}
 abbrev pub AreCodes : Module → Codes → Type 0
 AreCodes source code = (e : Form) (names : Names) → code e names ≡ expression_code source code e names
 
--- codes whose whole agrees with the module, and has a spelling no longer than the module's bound
+-- codes whose whole agrees with the module, fails where it fails, and has a spelling no longer than the module's bound
 pub record HasCode (source : Module) : Type 0 where
   pub code : Codes
   pub are_codes : AreCodes source code
   pub agrees : Agrees source (whole_code source code)
+  pub fails : FailsAlike source (whole_code source code)
   pub within : length (spelling (whole_code source code)) ≤ module_bound source
 
--- Where no inline reaches itself there are such codes.
+-- Where each body is an expression and no inline reaches itself there are such codes.
 abbrev pub ModulesHaveCode : Type 0
-ModulesHaveCode = (source : Module) → HasNoCycle source → HasCode source
+ModulesHaveCode = (source : Module) → AreBound source → HasNoCycle source → HasCode source
 
 -- Trees that are like codes, but with one pair more around each code that an expression goes on with. So the tree of an
 -- expression has more nodes than all those together of what its code is made of: a measure of the work. Only `qq` and
@@ -32,6 +34,6 @@ ModulesHaveCode = (source : Module) → HasNoCycle source → HasCode source
 abbrev pub AreMeasured : Module → Codes → Type 0
 AreMeasured source measured = (e : Form) (names : Names) → measured e names ≡ expression_code source (λ e names. Pair nil (measured e names)) e names
 
--- Where no inline reaches itself, that work ends.
+-- Where each body is an expression and no inline reaches itself, that work ends.
 abbrev pub WorkEnds : Type 0
-WorkEnds = (source : Module) → HasNoCycle source → (measured : Codes) × AreMeasured source measured
+WorkEnds = (source : Module) → AreBound source → HasNoCycle source → (measured : Codes) × AreMeasured source measured

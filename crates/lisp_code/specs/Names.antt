@@ -2,7 +2,7 @@
 use Rattle.std.specs.Prelude.{ℕ, List, [], ◌∷◌, Option, Some, None, bytes_eq, if◌then◌else◌}
 use Rattle.lisp_spec.specs.Forms.{Form, Place}
 use Rattle.lisp_spec.specs.Parameters.{Side, Parameter, parameters}
-use Rattle.lisp_spec.specs.Environments.{expression_at}
+use Rattle.lisp_spec.specs.OperandForms.{expression_at}
 
 pub data Names : Type 0 where
   Nowhere : Names

@@ -2,8 +2,8 @@
 
 ghost use Rattle.lisp_code.specs.CodeLaws.{ModulesHaveCode, WorkEnds};
 
-/// Where no inline reaches itself, a module has code that agrees with it and is no longer than its bound, made of the
-/// codes of its expressions.
+/// Where each body is an expression and no inline reaches itself, a module has code that agrees with it, fails where it
+/// fails, and is no longer than its bound, made of the codes of its expressions.
 pub fn modules_have_code()
     ensures { ModulesHaveCode }
 {}

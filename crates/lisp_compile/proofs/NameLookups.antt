@@ -8,7 +8,7 @@ use Rattle.lisp_read.specs.FormLists.{form_elements, form_list, headed}
 use Rattle.lisp_spec.specs.declared.head.Head.TheVariants.{Lists, Operates}
 use Rattle.lisp_spec.specs.Heads.{head_of}
 use Rattle.lisp_spec.specs.Parameters.{Side, ToFirst, ToRest, Parameter, parameters, path_of}
-use Rattle.lisp_spec.specs.Environments.{step_name, part_of_operand, expression_at}
+use Rattle.lisp_spec.specs.OperandForms.{step_name, part_of_operand, expression_at}
 use Rattle.lisp_code.specs.Names.{Names, Nowhere, AtPath, Named, PathTo, NoPath, ExpressionOf, NoName, named, paths_bound, function_names, deferring, deferred, inline_names}
 use Rattle.lisp_code.specs.Pieces.{operator_code, list_code}
 use Rattle.lisp_compile.specs.Scopes.{elements_of}

@@ -2,7 +2,7 @@
 use Rattle.std.proofs.Common.{◌≡◌, ◌≢◌, ℕ, zero, suc, ◌≤◌, ◌<◌, ◌⊎◌, inl, inr, Bool, true, false, not, ◌||◌, cond, List, [], ◌∷◌, filter, length, Option, Some, None, bytes_eq, refl, sym, ◌∙◌, ap, subst, arith, true≢false}
 use Rattle.std.specs.List.{list_any}
 use Rattle.std.proofs.lemmas.Slice.Eq.{bytes_eq-Decides}
-use Rattle.lisp_spec.specs.Modules.{Definition, definition_named}
+use Rattle.lisp_spec.specs.Modules.{Definition, Module, definition_named}
 use Rattle.lisp_spec.specs.ModuleFaults.{is_among}
 use Rattle.lisp_spec.specs.Cycles.{calls_of, reaches_within}
 use Rattle.lisp_spec.specs.ModuleLaws.{Distinct}
@@ -42,14 +42,14 @@ or_true false b e n = e
 abbrev Passes : (List ℕ → Bool) → List (List ℕ) → Type 0
 Passes p xs = (x : List ℕ) × (is_among x xs ≡ true) × (p x ≡ true)
 
-passing : (p : List ℕ → Bool) (xs : List (List ℕ)) → list_any p xs ≡ true → Passes p xs
+pub passing : (p : List ℕ → Bool) (xs : List (List ℕ)) → list_any p xs ≡ true → Passes p xs
 passing p [] e = absurd cc
 passing p (x ∷ xs) e = elim (cases (p x)) [
   | inl t ↦ (x, or_left (bytes_eq x x) (is_among x xs) (same_is x), t)
   | inr f ↦ let h = passing p xs (or_true (p x) (list_any p xs) e f) in (h.0, or_right (bytes_eq h.0 x) (is_among h.0 xs) h.1, h.2)
 ]
 
-passes : (p : List ℕ → Bool) (x : List ℕ) (xs : List (List ℕ)) → is_among x xs ≡ true → p x ≡ true → list_any p xs ≡ true
+pub passes : (p : List ℕ → Bool) (x : List ℕ) (xs : List (List ℕ)) → is_among x xs ≡ true → p x ≡ true → list_any p xs ≡ true
 passes p x [] h e = absurd cc
 passes p x (y ∷ ys) h e = elim (cases (bytes_eq x y)) [
   | inl t ↦ or_left (p y) (list_any p ys) (ap p (sym (is_same x y t)) ∙ e)
@@ -113,76 +113,76 @@ inline_among x (d ∷ inlines) h = elim (cases (bytes_eq d.name x)) [
       (inline_among x inlines (λ n. h (subst (λ b. cond b (Some d) (definition_named x inlines) ≡ None) (sym f) n)))
 ]
 
-calls_some : (found : Option Definition) (called : List ℕ) → is_among called (calls_of found) ≡ true → found ≢ None
-calls_some None called e n = absurd cc
-calls_some (Some d) called e n = absurd cc
+pub as_many_names : (inlines : List Definition) → length (definition_names inlines) ≡ length inlines
+as_many_names [] = refl
+as_many_names (d ∷ inlines) = ap suc (as_many_names inlines)
 
-caller_among : (inlines : List Definition) (from called : List ℕ) → Calls inlines from called → is_among from (definition_names inlines) ≡ true
-caller_among inlines from called e = inline_among from inlines (calls_some (definition_named from inlines) called e)
+calls_some : (m : Module) (found : Option Definition) (called : List ℕ) → is_among called (calls_of m found) ≡ true → found ≢ None
+calls_some m None called e n = absurd cc
+calls_some m (Some d) called e n = absurd cc
 
-callers_among : (inlines : List Definition) (from : List ℕ) (through : List (List ℕ)) (name : List ℕ) → IsPath inlines from through name →
-    AllByRecursion (λ x. is_among x (definition_names inlines) ≡ true) (from ∷ through)
-callers_among inlines from [] name p = (caller_among inlines from name p, tt)
-callers_among inlines from (called ∷ more) name p = (caller_among inlines from called p.0, callers_among inlines called more name p.1)
+caller_among : (m : Module) (from called : List ℕ) → Calls m from called → is_among from (definition_names m.inlines) ≡ true
+caller_among m from called e = inline_among from m.inlines (calls_some m (definition_named from m.inlines) called e)
+
+callers_among : (m : Module) (from : List ℕ) (through : List (List ℕ)) (name : List ℕ) → IsPath m from through name →
+    AllByRecursion (λ x. is_among x (definition_names m.inlines) ≡ true) (from ∷ through)
+callers_among m from [] name p = (caller_among m from name p, tt)
+callers_among m from (called ∷ more) name p = (caller_among m from called p.0, callers_among m called more name p.1)
 
 -- a path that no inline is on twice
-pub record Simple (inlines : List Definition) (from name : List ℕ) : Type 0 where
+pub record Simple (m : Module) (from name : List ℕ) : Type 0 where
   pub through : List (List ℕ)
-  pub path : IsPath inlines from through name
+  pub path : IsPath m from through name
   pub once : Distinct (from ∷ through)
 
-from_here : (inlines : List Definition) (x from : List ℕ) (through : List (List ℕ)) (name : List ℕ) → IsPath inlines from through name → Distinct (from ∷ through) →
-    x ≡ from → Simple inlines x name
-from_here inlines x from through name p d e = subst (λ w. Simple inlines w name) (sym e) (record { through = through; path = p; once = d })
+from_here : (m : Module) (x from : List ℕ) (through : List (List ℕ)) (name : List ℕ) → IsPath m from through name → Distinct (from ∷ through) →
+    x ≡ from → Simple m x name
+from_here m x from through name p d e = subst (λ w. Simple m w name) (sym e) (record { through = through; path = p; once = d })
 
-cut : (inlines : List Definition) (x from : List ℕ) (through : List (List ℕ)) (name : List ℕ) → IsPath inlines from through name → Distinct (from ∷ through) →
-    is_among x (from ∷ through) ≡ true → Simple inlines x name
-cut inlines x from [] name p d h = elim (cases (bytes_eq x from)) [
-  | inl t ↦ from_here inlines x from [] name p d (is_same x from t)
+cut : (m : Module) (x from : List ℕ) (through : List (List ℕ)) (name : List ℕ) → IsPath m from through name → Distinct (from ∷ through) →
+    is_among x (from ∷ through) ≡ true → Simple m x name
+cut m x from [] name p d h = elim (cases (bytes_eq x from)) [
+  | inl t ↦ from_here m x from [] name p d (is_same x from t)
   | inr f ↦ absurd (true≢false (sym (or_true (bytes_eq x from) false h f)))
 ]
-cut inlines x from (called ∷ more) name p d h = elim (cases (bytes_eq x from)) [
-  | inl t ↦ from_here inlines x from (called ∷ more) name p d (is_same x from t)
-  | inr f ↦ cut inlines x called more name p.1 d.1 (or_true (bytes_eq x from) (is_among x (called ∷ more)) h f)
+cut m x from (called ∷ more) name p d h = elim (cases (bytes_eq x from)) [
+  | inl t ↦ from_here m x from (called ∷ more) name p d (is_same x from t)
+  | inr f ↦ cut m x called more name p.1 d.1 (or_true (bytes_eq x from) (is_among x (called ∷ more)) h f)
 ]
 
 -- Whatever a path leads to, one without repeats does.
-simple : (inlines : List Definition) (from : List ℕ) (through : List (List ℕ)) (name : List ℕ) → IsPath inlines from through name → Simple inlines from name
-simple inlines from [] name p = record { through = []; path = p; once = (refl, tt) }
-simple inlines from (called ∷ more) name p =
-    let s = simple inlines called more name p.1 in
+simple : (m : Module) (from : List ℕ) (through : List (List ℕ)) (name : List ℕ) → IsPath m from through name → Simple m from name
+simple m from [] name p = record { through = []; path = p; once = (refl, tt) }
+simple m from (called ∷ more) name p =
+    let s = simple m called more name p.1 in
     elim (cases (is_among from (called ∷ s.through))) [
-      | inl t ↦ cut inlines from called s.through name s.path s.once t
+      | inl t ↦ cut m from called s.through name s.path s.once t
       | inr f ↦ record { through = called ∷ s.through; path = (p.0, s.path); once = (f, s.once) }
     ]
 
 -- ---- what is found
 
-reached : (inlines : List Definition) (from : List ℕ) (through : List (List ℕ)) (name : List ℕ) (bound : ℕ) → IsPath inlines from through name →
-    length through < bound → reaches_within bound inlines from name ≡ true
-reached inlines from through name zero p l = absurd (omega (arith, l))
-reached inlines from [] name (suc bound) p l =
-    passes (λ called. bytes_eq called name || reaches_within bound inlines called name) name (calls_of (definition_named from inlines)) p
-    (or_left (bytes_eq name name) (reaches_within bound inlines name name) (same_is name))
-reached inlines from (called ∷ more) name (suc bound) p l =
-    passes (λ called. bytes_eq called name || reaches_within bound inlines called name) called (calls_of (definition_named from inlines)) p.0
-    (or_right (bytes_eq called name) (reaches_within bound inlines called name) (reached inlines called more name bound p.1 (omega (arith, l))))
-
-pub as_many_names : (inlines : List Definition) → length (definition_names inlines) ≡ length inlines
-as_many_names [] = refl
-as_many_names (d ∷ inlines) = ap suc (as_many_names inlines)
+reached : (m : Module) (from : List ℕ) (through : List (List ℕ)) (name : List ℕ) (bound : ℕ) → IsPath m from through name →
+    length through < bound → reaches_within bound m from name ≡ true
+reached m from through name zero p l = absurd (omega (arith, l))
+reached m from [] name (suc bound) p l =
+    passes (λ called. bytes_eq called name || reaches_within bound m called name) name (calls_of m (definition_named from m.inlines)) p
+    (or_left (bytes_eq name name) (reaches_within bound m name name) (same_is name))
+reached m from (called ∷ more) name (suc bound) p l =
+    passes (λ called. bytes_eq called name || reaches_within bound m called name) called (calls_of m (definition_named from m.inlines)) p.0
+    (or_right (bytes_eq called name) (reaches_within bound m called name) (reached m called more name bound p.1 (omega (arith, l))))
 
 pub finds_reached : FindsReached
-finds_reached inlines from name r =
-    let s = simple inlines from r.0 name r.1 in
-    reached inlines from s.through name (length inlines) s.path
-    (subst (λ n. length s.through < n) (as_many_names inlines) (no_more (from ∷ s.through) (definition_names inlines) s.once (callers_among inlines from s.through name s.path)))
+finds_reached m from name r =
+    let s = simple m from r.0 name r.1 in
+    reached m from s.through name (length m.inlines) s.path
+    (subst (λ n. length s.through < n) (as_many_names m.inlines) (no_more (from ∷ s.through) (definition_names m.inlines) s.once (callers_among m from s.through name s.path)))
 
 pub found_is_reached : FoundIsReached
-found_is_reached inlines from name zero e = absurd cc
-found_is_reached inlines from name (suc bound) e =
-    let h = passing (λ called. bytes_eq called name || reaches_within bound inlines called name) (calls_of (definition_named from inlines)) e in
+found_is_reached m from name zero e = absurd cc
+found_is_reached m from name (suc bound) e =
+    let h = passing (λ called. bytes_eq called name || reaches_within bound m called name) (calls_of m (definition_named from m.inlines)) e in
     elim (cases (bytes_eq h.0 name)) [
-      | inl t ↦ ([], subst (λ w. Calls inlines from w) (is_same h.0 name t) h.1)
-      | inr f ↦ let r = found_is_reached inlines h.0 name bound (or_true (bytes_eq h.0 name) (reaches_within bound inlines h.0 name) h.2 f) in (h.0 ∷ r.0, (h.1, r.1))
+      | inl t ↦ ([], subst (λ w. Calls m from w) (is_same h.0 name t) h.1)
+      | inr f ↦ let r = found_is_reached m h.0 name bound (or_true (bytes_eq h.0 name) (reaches_within bound m h.0 name) h.2 f) in (h.0 ∷ r.0, (h.1, r.1))
     ]

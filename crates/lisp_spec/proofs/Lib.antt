@@ -6,6 +6,7 @@ pub mod Settled
 pub mod MacroCases
 mod ExpansionRows
 mod TurnRows
+pub mod Reading
 pub mod Sources
 mod MeaningRows
 pub mod ModuleCases
@@ -17,10 +18,23 @@ mod TextMeaningRows
 mod BuiltInRows
 mod FaultTextRows
 pub mod MeaningProofs
+pub mod FormEnvironments
+pub mod FormMeaning
+pub mod FormMeaningProofs
 pub mod ModuleProofs
 pub mod ConstantProofs
+pub mod ConstantsOfModules
+pub mod NamesFound
+pub mod Widening
+pub mod FormsAgree
 pub mod BoundProofs
 pub mod WalkProofs
 pub mod CycleProofs
+pub mod FormCycles
+pub mod FormWeights
+pub mod FormCycleLaws
+pub mod FormCycleProofs
+pub mod FormNestingProofs
+pub mod FormsWeigh
 pub mod NestingProofs
 pub mod InclusionProofs

@@ -1,57 +1,29 @@
 -- What the stages of a module without fault say of it.
-use Rattle.std.proofs.Common.{◌≡◌, ℕ, ◌≤◌, ◌⊎◌, inl, inr, Bool, true, false, not, ◌&&◌, ◌||◌, cond, List, [], ◌∷◌, ◌++◌, map, filter, Option, Some, None, Ok, Err, refl, sym, ◌∙◌, ap, subst, arith, append_assoc, leb-true, nat_lt}
+use Rattle.std.proofs.Common.{◌≡◌, ℕ, ◌≤◌, Bool, true, false, not, ◌&&◌, ◌||◌, cond, List, [], ◌∷◌, ◌++◌, map, filter, Option, Some, None, Ok, Err, refl, sym, ◌∙◌, ap, subst, arith, append_assoc, leb-true, nat_lt}
 use Rattle.std.proofs.lemmas.List.{append-nil, map-append}
-use Rattle.clvm_spec.specs.Tree.{Tree, Atom}
+use Rattle.clvm_spec.specs.Tree.{Tree, list_tree}
+use Rattle.clvm_spec.specs.Outcomes.{Applied, Gives, Fails, TooWide}
+use Rattle.clvm_spec.specs.Operators.{is_nil}
+use Rattle.clvm_spec.specs.OperatorTable.{applied}
 use Rattle.lisp_spec.specs.Forms.{Form, Place}
-use Rattle.lisp_spec.specs.Forms as form
 use Rattle.lisp_spec.specs.Modules.{Definition, Constant, Module, constant_named}
 use Rattle.lisp_spec.specs.Weights.{tree_weight, weight_limit}
-use Rattle.lisp_spec.specs.ModuleFaults.{Kind, InlineCycle, TooLarge, Fault, fault, Judged, ◌>>=◌, ◌or◌, unless, expect}
+use Rattle.lisp_spec.specs.ModuleFaults.{InlineCycle, TooLarge, fault, Judged, ◌or◌, unless, expect, fault_of}
 use Rattle.lisp_spec.specs.Definitions as roles
 use Rattle.lisp_spec.specs.Definitions.{Role, Function, Inline, Macro, Written, is_role, names_of, constants_in, macros_in, without_macros, functions_in, inlines_in, definition}
 use Rattle.lisp_spec.specs.Inclusion.{Texts, Parts, parts_of_text, definitions_of}
-use Rattle.lisp_spec.specs.FormParts.{Expression}
-use Rattle.lisp_spec.specs.FormFaults.{Scope, form_fault}
-use Rattle.lisp_spec.specs.Constants.{Value, met, symbol_value, pair_value, form_value, with_constant, constants_after}
+use Rattle.lisp_spec.specs.Expressions.{Expression, Literal, Name, Choice, Listing, Operation, FunctionCall, InlineCall, Filled, Scope, expression_of}
+use Rattle.lisp_spec.specs.Scopes.{constant_scope, body_scope, IsExpression}
+use Rattle.lisp_spec.specs.Constants.{met, result_value, named_value, expression_value, operand_values, template_value, constant_value, with_constant, constants_after}
 use Rattle.lisp_spec.specs.Cycles.{reaches_itself}
 use Rattle.lisp_spec.specs.ExpressionWeights.{expression_weight, definition_weight}
-use Rattle.lisp_spec.specs.ModuleOf.{Draft, draft_of, constant_scope, body_scope, draft_scope, forms_fault, draft_fault, cycle_fault, is_light, weights_fault, module_with, module_fault, module_of}
-use Rattle.lisp_spec.specs.ModuleLaws.{StandsFor, HasAnAnswer, IsBound, NamesAreBound, InlinesEnd, WeightsAreWithinTheLimit, ValuesAreWithinTheLimit}
+use Rattle.lisp_spec.specs.ModuleOf.{Draft, draft_of, draft_scope, forms_fault, draft_fault, cycle_fault, is_light, weights_fault, module_with, module_fault}
+use Rattle.lisp_spec.specs.ModuleLaws.{StandsFor, IsBound, NamesAreBound, InlinesEnd, WeightsAreWithinTheLimit, ValuesAreWithinTheLimit}
 use Rattle.lisp_spec.specs.Modules.{definition_names, constant_names}
 use Rattle.std.specs.List.{AllByRecursion}
-
--- ---- answers
-
-answer : (judged : Judged Module) → ((m : Module) × (judged ≡ Ok m)) ⊎ ((f : Fault) × (judged ≡ Err f))
-answer (Ok m) = inl (m, refl)
-answer (Err f) = inr (f, refl)
-
-pub has_an_answer : HasAnAnswer
-has_an_answer texts text = answer (module_of text texts)
+pub use Rattle.lisp_spec.proofs.Reading.{then_ok, ok, ok_is, unless_ok, or_none, expect_none}
 
 -- ---- steps
-
-pub then_ok : {A B : Type 0} (x : Judged A) (go : A → Judged B) (b : B) → (x >>= go) ≡ Ok b → (a : A) × (x ≡ Ok a) × (go a ≡ Ok b)
-then_ok (Ok a) go b e = (a, refl, e)
-then_ok (Err f) go b e = absurd cc
-
-abbrev pub ok : {A : Type 0} → A → Judged A
-ok a = Ok a
-
-pub ok_is : {A : Type 0} (a b : A) → ok a ≡ ok b → a ≡ b
-ok_is a b e = cc
-
-pub unless_ok : {A : Type 0} (f : Option Fault) (found a : A) → unless f found ≡ Ok a → (f ≡ None) × (found ≡ a)
-unless_ok None found a e = (refl, cc)
-unless_ok (Some f) found a e = absurd cc
-
-pub or_none : (a b : Option Fault) → (a or b) ≡ None → (a ≡ None) × (b ≡ None)
-or_none None b e = (refl, e)
-or_none (Some f) b e = absurd cc
-
-pub expect_none : (holds : Bool) (kind : Kind) (place : Place) → expect holds kind place ≡ None → holds ≡ true
-expect_none true kind place e = refl
-expect_none false kind place e = absurd cc
 
 -- what the stages of a module without fault gave
 pub record Stages (texts : Texts) (text : List ℕ) (m : Module) : Type 0 where
@@ -146,15 +118,23 @@ of_all_inlines P definitions h =
 
 -- ---- names
 
+-- A form without fault is an expression.
+abbrev Reads : Scope → Form → Type 0
+Reads scope f = (e : Expression) × IsExpression scope f e
+
+reads : {A : Type 0} (judged : Judged A) → fault_of judged ≡ None → (a : A) × (judged ≡ Ok a)
+reads (Ok a) e = (a, refl)
+reads (Err f) e = absurd cc
+
 constant_step : (scope : Form → Scope) (earlier : List (List ℕ)) (d : Written) (definitions : List Written) (is : Bool) →
-    cond is (form_fault (constant_scope earlier) Expression d.body or forms_fault scope (earlier ++ d.name ∷ []) definitions)
-    (form_fault (scope d.params) Expression d.body or forms_fault scope earlier definitions) ≡ None →
-    (is ≡ false → form_fault (scope d.params) Expression d.body ≡ None) × ((next : List (List ℕ)) × (forms_fault scope next definitions ≡ None))
+    cond is (fault_of (expression_of d.body (constant_scope earlier)) or forms_fault scope (earlier ++ d.name ∷ []) definitions)
+    (fault_of (expression_of d.body (scope d.params)) or forms_fault scope earlier definitions) ≡ None →
+    (is ≡ false → Reads (scope d.params) d.body) × ((next : List (List ℕ)) × (forms_fault scope next definitions ≡ None))
 constant_step scope earlier d definitions true e = (λ n. absurd cc, (earlier ++ d.name ∷ [], (or_none _ _ e).1))
-constant_step scope earlier d definitions false e = let h = or_none _ _ e in (λ n. h.0, (earlier, h.1))
+constant_step scope earlier d definitions false e = let h = or_none _ _ e in (λ n. reads (expression_of d.body (scope d.params)) h.0, (earlier, h.1))
 
 bound_bodies : (scope : Form → Scope) (earlier : List (List ℕ)) (definitions : List Written) → forms_fault scope earlier definitions ≡ None →
-    AllByRecursion (NoConstant (λ d. form_fault (scope d.params) Expression d.body ≡ None)) definitions
+    AllByRecursion (NoConstant (λ d. Reads (scope d.params) d.body)) definitions
 bound_bodies scope earlier [] e = tt
 bound_bodies scope earlier (d ∷ definitions) e =
     let h = constant_step scope earlier d definitions (is_role roles.Constant d.role) e in (h.0, bound_bodies scope h.1.0 definitions h.1.1)
@@ -163,7 +143,7 @@ pub names_after : (earlier : List Constant) (definitions : List Written) (consta
     constant_names constants ≡ constant_names earlier ++ names_of definitions
 names_after earlier [] constants e = ap constant_names (sym (ok_is earlier constants e)) ∙ sym (append-nil (constant_names earlier))
 names_after earlier (d ∷ definitions) constants e =
-    let v = then_ok (form_value d.place earlier Value d.body) _ constants e in
+    let v = then_ok (constant_value earlier d) _ constants e in
     names_after (with_constant d v.0 earlier) definitions constants v.2
     ∙ ap (λ t. t ++ names_of definitions) (map-append (λ c. c.name) earlier (record { name = d.name; value = v.0 } ∷ []))
     ∙ append_assoc (constant_names earlier) (d.name ∷ []) (names_of definitions)
@@ -172,17 +152,17 @@ pub names_are_bound : NamesAreBound
 names_are_bound texts text m e =
     let s = stages texts text m e in
     let d = s.draft in
-    let h = or_none (forms_fault (draft_scope d.definitions) [] d.definitions) (form_fault (draft_scope d.definitions d.params) Expression d.body) s.names in
+    let h = or_none (forms_fault (draft_scope d.definitions) [] d.definitions) (fault_of (expression_of d.body (draft_scope d.definitions d.params))) s.names in
     let bodies = bound_bodies (draft_scope d.definitions) [] d.definitions h.0 in
     let n : constant_names s.constants ≡ names_of (constants_in d.definitions) = names_after [] (constants_in d.definitions) s.constants s.values in
     let scoped : (names : List (List ℕ)) → Form → Scope = λ names. body_scope names (definition_names (functions_in d.definitions)) (definition_names (inlines_in d.definitions)) in
     subst (λ m. AllByRecursion (λ f. IsBound m f.params f.body) m.functions × AllByRecursion (λ f. IsBound m f.params f.body) m.inlines × IsBound m m.params m.body) s.is
-    (subst (λ names. AllByRecursion (λ f. form_fault (scoped names f.params) Expression f.body ≡ None) (functions_in d.definitions)
-    × AllByRecursion (λ f. form_fault (scoped names f.params) Expression f.body ≡ None) (inlines_in d.definitions)
-    × (form_fault (scoped names d.params) Expression d.body ≡ None)) (sym n) (
-      of_functions (λ f. form_fault (draft_scope d.definitions f.params) Expression f.body ≡ None) d.definitions bodies,
-      of_all_inlines (λ f. form_fault (draft_scope d.definitions f.params) Expression f.body ≡ None) d.definitions bodies,
-      h.1,
+    (subst (λ names. AllByRecursion (λ f. Reads (scoped names f.params) f.body) (functions_in d.definitions)
+    × AllByRecursion (λ f. Reads (scoped names f.params) f.body) (inlines_in d.definitions)
+    × Reads (scoped names d.params) d.body) (sym n) (
+      of_functions (λ f. Reads (draft_scope d.definitions f.params) f.body) d.definitions bodies,
+      of_all_inlines (λ f. Reads (draft_scope d.definitions f.params) f.body) d.definitions bodies,
+      reads (expression_of d.body (draft_scope d.definitions d.params)) h.1,
     ))
 
 -- ---- inlines and weights
@@ -196,20 +176,20 @@ either_one : (a b : Bool) → (a || b) ≡ true → a ≡ false → b ≡ true
 either_one true b e h = absurd cc
 either_one false b e h = e
 
-no_cycles : (inlines : List Definition) (definitions : List Written) → cycle_fault inlines definitions ≡ None →
-    AllByRecursion (λ d. is_role Inline d.role ≡ true → reaches_itself inlines d.name ≡ false) definitions
-no_cycles inlines [] e = tt
-no_cycles inlines (d ∷ definitions) e =
-    let h = or_none (expect (not (is_role Inline d.role && reaches_itself inlines d.name)) InlineCycle d.place) (cycle_fault inlines definitions) e in
-    (not_both (is_role Inline d.role) (reaches_itself inlines d.name) (expect_none _ _ _ h.0), no_cycles inlines definitions h.1)
+no_cycles : (m : Module) (definitions : List Written) → cycle_fault m definitions ≡ None →
+    AllByRecursion (λ d. is_role Inline d.role ≡ true → reaches_itself m d.name ≡ false) definitions
+no_cycles m [] e = tt
+no_cycles m (d ∷ definitions) e =
+    let h = or_none (expect (not (is_role Inline d.role && reaches_itself m d.name)) InlineCycle d.place) (cycle_fault m definitions) e in
+    (not_both (is_role Inline d.role) (reaches_itself m d.name) (expect_none _ _ _ h.0), no_cycles m definitions h.1)
 
 pub inlines_end : InlinesEnd
 inlines_end texts text m e =
     let s = stages texts text m e in
     let made = module_with s.draft s.constants in
-    let h = or_none (cycle_fault made.inlines s.draft.definitions) _ s.ends in
-    subst (λ m. AllByRecursion (λ d. reaches_itself m.inlines d.name ≡ false) m.inlines) s.is
-    (of_inlines (λ d. reaches_itself made.inlines d.name ≡ false) s.draft.definitions (no_cycles made.inlines s.draft.definitions h.0))
+    let h = or_none (cycle_fault made s.draft.definitions) _ s.ends in
+    subst (λ m. AllByRecursion (λ d. reaches_itself m d.name ≡ false) m.inlines) s.is
+    (of_inlines (λ d. reaches_itself made d.name ≡ false) s.draft.definitions (no_cycles made s.draft.definitions h.0))
 
 light_bodies : (m : Module) (definitions : List Written) → weights_fault m definitions ≡ None →
     AllByRecursion (NoConstant (λ d. definition_weight m (definition d) ≤ weight_limit)) definitions
@@ -222,7 +202,7 @@ pub weights_are_within_the_limit : WeightsAreWithinTheLimit
 weights_are_within_the_limit texts text m e =
     let s = stages texts text m e in
     let made = module_with s.draft s.constants in
-    let h = or_none (cycle_fault made.inlines s.draft.definitions) _ s.ends in
+    let h = or_none (cycle_fault made s.draft.definitions) _ s.ends in
     let w = or_none (weights_fault made s.draft.definitions) (expect (is_light made made.params made.body) TooLarge s.draft.body_place) h.1 in
     let bodies = light_bodies made s.draft.definitions w.0 in
     subst (λ m. AllByRecursion (λ d. definition_weight m d ≤ weight_limit) m.functions × AllByRecursion (λ d. definition_weight m d ≤ weight_limit) m.inlines
@@ -242,21 +222,40 @@ met_light place v tree false h e = subst (λ t. tree_weight t ≤ weight_limit) 
 pub met_is_light : (place : Place) (v tree : Tree) → met place v ≡ Ok tree → tree_weight tree ≤ weight_limit
 met_is_light place v tree e = met_light place v tree (nat_lt weight_limit (tree_weight v)) refl e
 
-pub value_is_light : (place : Place) (earlier : List Constant) (f : Form) (tree : Tree) → form_value place earlier Value f ≡ Ok tree → tree_weight tree ≤ weight_limit
-value_is_light place earlier (form.Atom at bytes) tree e = met_is_light place (Atom bytes) tree e
-value_is_light place earlier (form.Symbol at name) tree e =
-    let v = then_ok (symbol_value place (constant_named name earlier)) (met place) tree e in met_is_light place v.0 tree v.2
-value_is_light place earlier (form.Pair at head behind) tree e =
-    let v = then_ok (pair_value place head (λ u. form_value place earlier u behind) behind) (met place) tree e in met_is_light place v.0 tree v.2
+one_is_light : (is : Bool) (a b : Judged Tree) (tree : Tree) → (a ≡ Ok tree → tree_weight tree ≤ weight_limit) → (b ≡ Ok tree → tree_weight tree ≤ weight_limit) → cond is a b ≡ Ok tree → tree_weight tree ≤ weight_limit
+one_is_light true a b tree p q e = p e
+one_is_light false a b tree p q e = q e
+
+named_is_light : (place : Place) (found : Option Constant) (tree : Tree) → named_value place found ≡ Ok tree → tree_weight tree ≤ weight_limit
+named_is_light place None tree e = absurd cc
+named_is_light place (Some c) tree e = met_is_light place c.value tree e
+
+result_is_light : (place : Place) (result : Applied) (tree : Tree) → result_value place result ≡ Ok tree → tree_weight tree ≤ weight_limit
+result_is_light place (Gives value cost pairs bytes) tree e = met_is_light place value tree e
+result_is_light place (Fails why) tree e = absurd cc
+result_is_light place TooWide tree e = absurd cc
+
+pub value_is_light : (place : Place) (earlier : List Constant) (e : Expression) (tree : Tree) → expression_value place earlier e ≡ Ok tree → tree_weight tree ≤ weight_limit
+value_is_light place earlier (Literal value) tree h = met_is_light place value tree h
+value_is_light place earlier (Name name) tree h = named_is_light place (constant_named name earlier) tree h
+value_is_light place earlier (Choice condition second third) tree h =
+    let v = then_ok (expression_value place earlier condition) _ tree h in
+    one_is_light (is_nil v.0) (expression_value place earlier third) (expression_value place earlier second) tree (value_is_light place earlier third tree) (value_is_light place earlier second tree) v.2
+value_is_light place earlier (Listing operands) tree h = let v = then_ok (operand_values place earlier operands) _ tree h in met_is_light place (list_tree v.0) tree v.2
+value_is_light place earlier (Operation code operands) tree h = let v = then_ok (operand_values place earlier operands) _ tree h in result_is_light place (applied (code ∷ []) v.0) tree v.2
+value_is_light place earlier (FunctionCall name operands) tree h = absurd cc
+value_is_light place earlier (InlineCall name operands) tree h = absurd cc
+value_is_light place earlier (Filled template) tree h = let v = then_ok (template_value place earlier template) (met place) tree h in met_is_light place v.0 tree v.2
 
 light_after : (earlier : List Constant) (definitions : List Written) (constants : List Constant) → constants_after earlier definitions ≡ Ok constants →
     AllByRecursion (λ c. tree_weight c.value ≤ weight_limit) earlier → AllByRecursion (λ c. tree_weight c.value ≤ weight_limit) constants
 light_after earlier [] constants e h = subst (AllByRecursion (λ c. tree_weight c.value ≤ weight_limit)) (ok_is earlier constants e) h
 light_after earlier (d ∷ definitions) constants e h =
-    let v = then_ok (form_value d.place earlier Value d.body) _ constants e in
+    let v = then_ok (constant_value earlier d) _ constants e in
+    let x = then_ok (expression_of d.body (constant_scope (constant_names earlier))) _ v.0 v.1 in
     light_after (with_constant d v.0 earlier) definitions constants v.2
     (each_append (λ c. tree_weight c.value ≤ weight_limit) earlier (record { name = d.name; value = v.0 } ∷ []) h
-    (value_is_light d.place earlier d.body v.0 v.1, tt))
+    (value_is_light d.place earlier x.0 v.0 x.2, tt))
 
 pub values_are_within_the_limit : ValuesAreWithinTheLimit
 values_are_within_the_limit texts text m e =

@@ -1,5 +1,5 @@
 -- What is expanded has no call any more.
-use Rattle.std.proofs.Common.{◌≡◌, ℕ, zero, suc, Bool, true, false, cond, ◌||◌, List, [], ◌∷◌, Option, Some, None, option_map, is_some, codes, refl, sym, ap, ◌∙◌, subst}
+use Rattle.std.proofs.Common.{◌≡◌, ℕ, zero, suc, Bool, true, false, cond, List, [], ◌∷◌, Option, Some, None, option_map, is_some, codes, refl, sym, ap, ◌∙◌, subst}
 use Rattle.lisp_spec.specs.Forms.{Form, Atom, Symbol, Pair, Place}
 use Rattle.lisp_read.specs.FormLists.{form_elements, is_symbol, is_empty}
 use Rattle.lisp_spec.specs.declared.head.Head.{Head}

@@ -1,10 +1,11 @@
 -- What the names of a body stand for. Source: Chialisp reference; what a parameter of an inline stands for, and that
 -- a missing step shows only where the parameter is evaluated, is this project's own.
-use Rattle.std.specs.Prelude.{ℕ, List, [], ◌∷◌, Option, Some, None, bytes_eq, codes, if◌then◌else◌}
+use Rattle.std.specs.Prelude.{ℕ, List, [], ◌∷◌, Option, Some, None, bytes_eq, if◌then◌else◌}
+use Rattle.clvm_spec.specs.declared.op_codes.TheConstants.{FIRST, REST}
 use Rattle.clvm_spec.specs.Tree.{Tree}
-use Rattle.lisp_spec.specs.Forms.{Form, Place}
-use Rattle.lisp_read.specs.FormLists.{headed}
+use Rattle.lisp_spec.specs.Forms.{Form}
 use Rattle.lisp_spec.specs.Parameters.{Side, ToFirst, ToRest, Parameter, parameters, tree_at}
+use Rattle.lisp_spec.specs.Expressions.{Expression, Listing, Operation, Operands, NoMore, Operand}
 
 pub data Environment : Type 0 where
   Empty : Environment
@@ -12,13 +13,13 @@ pub data Environment : Type 0 where
   -- The name's path has a step that isn't there.
   Astray : (name : List ℕ) (others : Environment) → Environment
   -- an expression of a caller, and the environment in which it stands
-  Stands : (name : List ℕ) (expression : Form) (where_it_stands : Environment) (others : Environment) → Environment
+  Stands : (name : List ℕ) (expression : Expression) (where_it_stands : Environment) (others : Environment) → Environment
 
 -- what one name stands for
 pub data Binding : Type 0 where
   ToTree : Tree → Binding
   ToNoStep : Binding
-  ToExpression : Form → Environment → Binding
+  ToExpression : Expression → Environment → Binding
   -- The name is no parameter.
   ToNothing : Binding
 
@@ -45,31 +46,30 @@ function_environment params argument = trees_bound (parameters params) argument
 -- ---- an inline
 
 -- An operand into which a path goes on has `f` or `r` applied to it for each step.
-abbrev pub step_name : Side → List ℕ
-step_name ToFirst = codes "f"
-step_name ToRest = codes "r"
+abbrev pub step_code : Side → ℕ
+step_code ToFirst = FIRST
+step_code ToRest = REST
 
-abbrev pub part_of_operand : Place → List Side → Form → Form
-part_of_operand place [] operand = operand
-part_of_operand place (side ∷ path) operand = part_of_operand place path (headed place (step_name side) (operand ∷ []))
+abbrev pub part_of : List Side → Expression → Expression
+part_of [] operand = operand
+part_of (side ∷ path) operand = part_of path (Operation (step_code side) (Operand operand NoMore))
 
--- What stands at a path of the list of operand expressions: a part of one of them, or, where the path ends on the
--- list's spine, `(list ..)` of the operands from there. None where it steps into the list's end. What is new of the
--- expression is at this place.
-abbrev pub expression_at : Place → List Side → List Form → Option Form
-expression_at place [] operands = Some (headed place (codes "list") operands)
-expression_at place (side ∷ path) [] = None
-expression_at place (ToFirst ∷ path) (operand ∷ operands) = Some (part_of_operand place path operand)
-expression_at place (ToRest ∷ path) (operand ∷ operands) = expression_at place path operands
+-- What stands at a path of the operands: a part of one of them, or, where the path ends on the list's spine, `(list ..)`
+-- of the operands from there. None where it steps into the list's end.
+abbrev pub operand_at : List Side → Operands → Option Expression
+operand_at [] operands = Some (Listing operands)
+operand_at (side ∷ path) NoMore = None
+operand_at (ToFirst ∷ path) (Operand first more) = Some (part_of path first)
+operand_at (ToRest ∷ path) (Operand first more) = operand_at path more
 
-abbrev pub standing : List ℕ → Option Form → Environment → Environment → Environment
+abbrev pub standing : List ℕ → Option Expression → Environment → Environment → Environment
 standing name None caller others = Astray name others
 standing name (Some e) caller others = Stands name e caller others
 
 -- Each parameter stands for an expression in the caller's environment.
-abbrev pub expressions_bound : Place → List Parameter → List Form → Environment → Environment
-expressions_bound place [] operands caller = Empty
-expressions_bound place (p ∷ more) operands caller = standing p.name (expression_at place p.path operands) caller (expressions_bound place more operands caller)
+abbrev pub expressions_bound : List Parameter → Operands → Environment → Environment
+expressions_bound [] operands caller = Empty
+expressions_bound (p ∷ more) operands caller = standing p.name (operand_at p.path operands) caller (expressions_bound more operands caller)
 
-abbrev pub inline_environment : Place → (params : Form) (operands : List Form) (caller : Environment) → Environment
-inline_environment place params operands caller = expressions_bound place (parameters params) operands caller
+abbrev pub inline_environment : (params : Form) → Operands → (caller : Environment) → Environment
+inline_environment params operands caller = expressions_bound (parameters params) operands caller

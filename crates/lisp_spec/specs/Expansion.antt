@@ -1,6 +1,6 @@
 -- The expansion of a form: each call of a macro is replaced by what its body gives, from the outside in. Source:
 -- Chialisp reference; the turns, the limits, and which fault stands where, are this project's own.
-use Rattle.std.specs.Prelude.{ℕ, zero, suc, Bool, true, ◌||◌, List, Option, Some, None, is_some, unwrap_or, max, codes, nat_lt, if◌then◌else◌}
+use Rattle.std.specs.Prelude.{ℕ, zero, suc, Bool, true, List, Option, Some, None, is_some, unwrap_or, max, codes, nat_lt, if◌then◌else◌}
 use Rattle.lisp_spec.specs.Forms.{Form, Atom, Symbol, Pair, Place}
 use Rattle.lisp_read.specs.FormLists.{form_elements, is_symbol, is_empty}
 use Rattle.lisp_spec.specs.FormParts.{Part, Expression, Operands, Template, OneTemplate}

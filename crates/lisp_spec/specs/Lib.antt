@@ -9,6 +9,7 @@ pub mod Macros
 pub mod MacroBodies
 pub mod Expansion
 pub mod ExpansionLaws
+pub mod OperandForms
 pub mod Environments
 pub mod Meaning
 pub mod Agreement
@@ -16,7 +17,8 @@ pub mod BuiltIns
 pub mod ModuleFaults
 pub mod Definitions
 pub mod Inclusion
-pub mod FormFaults
+pub mod Expressions
+pub mod Scopes
 pub mod Constants
 pub mod Cycles
 pub mod ExpressionWeights

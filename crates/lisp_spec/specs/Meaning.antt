@@ -1,21 +1,17 @@
 -- What the source of a module means, without any code. Source: Chialisp reference; the order of evaluation, inlines,
 -- templates, and that a number past 128 bits is Wide, are this project's own.
-use Rattle.std.specs.Prelude.{ℕ, zero, suc, ◌==◌, List, [], ◌∷◌, Bool, true, false, Option, Some, None, codes, if◌then◌else◌}
+use Rattle.std.specs.Prelude.{ℕ, zero, suc, ◌==◌, List, [], ◌∷◌, Option, Some, None, Ok, Err, if◌then◌else◌}
 use Rattle.clvm_spec.specs.declared.fuel.Fuel.{Fuel}
-use Rattle.clvm_spec.specs.Tree.{Tree, Atom, Pair, list_tree}
+use Rattle.clvm_spec.specs.Tree.{Tree, Pair, list_tree}
 use Rattle.clvm_spec.specs.Outcomes as run
 use Rattle.clvm_spec.specs.Outcomes.{Applied, Gives, Fails, TooWide, Outcome}
 use Rattle.clvm_spec.specs.Operators.{is_nil}
 use Rattle.clvm_spec.specs.OperatorTable.{applied}
 use Rattle.clvm_spec.specs.Evaluation.{run_outcome}
-use Rattle.lisp_spec.specs.Forms.{Form, Place}
-use Rattle.lisp_spec.specs.Forms as form
 use Rattle.lisp_spec.specs.Modules.{Module, Definition, Constant, definition_named, constant_named}
-use Rattle.lisp_spec.specs.declared.head.Head.{Head}
-use Rattle.lisp_spec.specs.declared.head.Head.TheVariants.{QuotesRest, QuotesOne, Templates, Unquotes, Chooses, Lists, Operates, Calls}
-use Rattle.lisp_spec.specs.Heads.{head_of}
-use Rattle.lisp_read.specs.FormLists.{form_elements, single, is_symbol}
-use Rattle.lisp_spec.specs.Quoted.{quoted_form, symbol_tree}
+use Rattle.lisp_spec.specs.ModuleFaults.{Judged}
+use Rattle.lisp_spec.specs.Expressions.{Expression, Literal, Name, Choice, Listing, Operation, FunctionCall, InlineCall, Filled, Operands, NoMore, Operand, Template, Plain, Both, Unquoted}
+use Rattle.lisp_spec.specs.Scopes.{body_of}
 use Rattle.lisp_spec.specs.Environments.{Environment, Binding, ToTree, ToNoStep, ToExpression, ToNothing, binding_of, function_environment, inline_environment}
 
 -- How the evaluation of an expression ends, where calls nest no deeper than a count.
@@ -29,7 +25,7 @@ pub data Meaning : Type 0 where
 
 -- an expression in its environment
 abbrev pub Means : Type 0
-Means = Form → Environment → Meaning
+Means = Expression → Environment → Meaning
 
 -- goes on from where a part has a value
 abbrev pub if_value : Meaning → (Tree → Meaning) → Meaning
@@ -78,87 +74,53 @@ name_meaning source further name ToNoStep = Failed
 name_meaning source further name (ToExpression e there) = further e there
 name_meaning source further name ToNothing = constant_meaning (constant_named name source.constants)
 
--- A function's operands are values, those of an inline are not evaluated. A module without fault has no other head.
-abbrev pub function_call : Means → Option Definition → List Tree → Meaning
-function_call further None values = Failed
-function_call further (Some f) values = further f.body (function_environment f.params (list_tree values))
+-- ---- bodies
 
-abbrev pub inline_call : Means → Definition → Place → Environment → Option (List Form) → Meaning
-inline_call further inline place env None = Failed
-inline_call further inline place env (Some operands) = further inline.body (inline_environment place inline.params operands env)
+-- Each body of a module without fault is an expression.
+abbrev pub body_meaning : Means → Judged Expression → Environment → Meaning
+body_meaning further (Ok e) env = further e env
+body_meaning further (Err first) env = Failed
+
+-- A function's operands are values, those of an inline are not evaluated. A module without fault calls no other.
+abbrev pub function_call : Module → Means → Option Definition → List Tree → Meaning
+function_call source further None values = Failed
+function_call source further (Some f) values = body_meaning further (body_of source f.params f.body) (function_environment f.params (list_tree values))
+
+abbrev pub inline_call : Module → Means → Operands → Environment → Option Definition → Meaning
+inline_call source further operands caller None = Failed
+inline_call source further operands caller (Some f) = body_meaning further (body_of source f.params f.body) (inline_environment f.params operands caller)
 
 -- ---- expressions
 
 -- `if`: the third operand where the first is nil, else the second
-abbrev pub chosen : Tree → (then_part else_part : Environment → Meaning) → Environment → Meaning
-chosen test then_part else_part env = if is_nil test then else_part env else then_part env
-
-abbrev pub quoted_operand : Option Form → Meaning
-quoted_operand None = Failed
-quoted_operand (Some operand) = Value (quoted_form operand)
-
--- what stands in a template at a pair: what replaces it where its head is `unquote`, else the pair of its parts, of
--- which the later in the text is evaluated first
-abbrev pub template_pair : Bool → (replaced first rest : Environment → Meaning) → Environment → Meaning
-template_pair true replaced first rest env = replaced env
-template_pair false replaced first rest env = if_value (rest env) (λ b. if_value (first env) (λ a. Value (Pair a b)))
-
--- the values of all operands, and what is done with them
-abbrev pub Operands : Type 0
-Operands = Environment → (List Tree → Meaning) → Meaning
+abbrev pub chosen : Tree → (second third : Environment → Meaning) → Environment → Meaning
+chosen test second third env = if is_nil test then third env else second env
 
 -- The count is for `a`, and what calls go on with has one less.
 module _ (source : Module) (n : ℕ) (further : Means) where
-  abbrev pub call : Place → List ℕ → Form → Operands → Environment → Option Definition → Meaning
-  call place name operands values env None = values env (function_call further (definition_named name source.functions))
-  call place name operands values env (Some inline) = inline_call further inline place env (form_elements operands)
-
-  abbrev pub by_head : Place → List ℕ → Form → (values : Operands) (choice template : Environment → Meaning) → Environment → Head → Meaning
-  by_head place name operands values choice template env QuotesRest = Value (quoted_form operands)
-  by_head place name operands values choice template env QuotesOne = quoted_operand (single operands)
-  by_head place name operands values choice template env Templates = template env
-  by_head place name operands values choice template env Unquotes = Failed
-  by_head place name operands values choice template env Chooses = choice env
-  by_head place name operands values choice template env Lists = values env (λ trees. Value (list_tree trees))
-  by_head place name operands values choice template env (Operates code) = values env (operate n code)
-  by_head place name operands values choice template env Calls = call place name operands values env (definition_named name source.inlines)
-
   abbrev mutual
-    pub expression_meaning : Form → Environment → Meaning
-    expression_meaning (form.Atom at bytes) env = Value (Atom bytes)
-    expression_meaning (form.Symbol at name) env = name_meaning source further name (binding_of name env)
-    expression_meaning (form.Pair at (form.Symbol place name) operands) env =
-        by_head at name operands (operand_values operands) (choice_meaning operands) (only_template operands) env (head_of name)
-    expression_meaning (form.Pair at head operands) env = Failed
+    pub expression_meaning : Expression → Environment → Meaning
+    expression_meaning (Literal tree) env = Value tree
+    expression_meaning (Name name) env = name_meaning source further name (binding_of name env)
+    expression_meaning (Choice condition second third) env =
+        if_value (expression_meaning condition env) (λ test. chosen test (expression_meaning second) (expression_meaning third) env)
+    expression_meaning (Listing operands) env = operands_meaning operands env (λ values. Value (list_tree values))
+    expression_meaning (Operation code operands) env = operands_meaning operands env (operate n code)
+    expression_meaning (FunctionCall name operands) env = operands_meaning operands env (function_call source further (definition_named name source.functions))
+    expression_meaning (InlineCall name operands) env = inline_call source further operands env (definition_named name source.inlines)
+    expression_meaning (Filled template) env = template_meaning template env
 
     -- The operands are evaluated from the last to the first, each once.
-    pub operand_values : Form → Environment → (List Tree → Meaning) → Meaning
-    operand_values (form.Atom at []) env go = go []
-    operand_values (form.Atom at (b ∷ bytes)) env go = Failed
-    operand_values (form.Symbol at name) env go = Failed
-    operand_values (form.Pair at first rest) env go =
-        operand_values rest env (λ values. if_value (expression_meaning first env) (λ value. go (value ∷ values)))
+    pub operands_meaning : Operands → Environment → (List Tree → Meaning) → Meaning
+    operands_meaning NoMore env go = go []
+    operands_meaning (Operand first more) env go =
+        operands_meaning more env (λ values. if_value (expression_meaning first env) (λ value. go (value ∷ values)))
 
-    -- the three operands of `if`
-    pub choice_meaning : Form → Environment → Meaning
-    choice_meaning (form.Pair at test (form.Pair second then_part (form.Pair third else_part (form.Atom end [])))) env =
-        if_value (expression_meaning test env) (λ value. chosen value (expression_meaning then_part) (expression_meaning else_part) env)
-    choice_meaning other env = Failed
-
-    pub template_meaning : Form → Environment → Meaning
-    template_meaning (form.Atom at bytes) env = Value (Atom bytes)
-    template_meaning (form.Symbol at name) env = Value (symbol_tree name)
-    template_meaning (form.Pair at first rest) env =
-        template_pair (is_symbol (codes "unquote") first) (only_expression rest) (template_meaning first) (template_meaning rest) env
-
-    -- the one operand of `unquote`, and that of `qq`
-    pub only_expression : Form → Environment → Meaning
-    only_expression (form.Pair at e (form.Atom end [])) env = expression_meaning e env
-    only_expression other env = Failed
-
-    pub only_template : Form → Environment → Meaning
-    only_template (form.Pair at t (form.Atom end [])) env = template_meaning t env
-    only_template other env = Failed
+    -- Of a pair the later in the text is evaluated first.
+    pub template_meaning : Template → Environment → Meaning
+    template_meaning (Plain tree) env = Value tree
+    template_meaning (Both first rest) env = if_value (template_meaning rest env) (λ b. if_value (template_meaning first env) (λ a. Value (Pair a b)))
+    template_meaning (Unquoted e) env = expression_meaning e env
 
 -- Each call of a function or an inline, and each use of an inline's parameter, hands on one less. Where none is left,
 -- it isn't made.
@@ -166,9 +128,10 @@ abbrev pub meaning_within : Module → ℕ → Means
 meaning_within source zero = expression_meaning source zero (λ e env. Out)
 meaning_within source (suc n) = expression_meaning source (suc n) (meaning_within source n)
 
-unfoldable pub meaning : Module → (expression : Form) → Environment → ℕ → Meaning
-meaning source expression env n = meaning_within source n expression env
+unfoldable pub meaning : Module → Expression → Environment → ℕ → Meaning
+meaning source e env n = meaning_within source n e env
 
 -- The module's own parameters are bound to its argument.
 abbrev pub module_meaning : Module → (argument : Tree) → ℕ → Meaning
-module_meaning source argument n = meaning source source.body (function_environment source.params argument) n
+module_meaning source argument n =
+    body_meaning (λ e env. meaning source e env n) (body_of source source.params source.body) (function_environment source.params argument)

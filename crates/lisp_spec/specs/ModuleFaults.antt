@@ -49,6 +49,10 @@ abbrev pub ◌>>=◌ : {A B : Type 0} → Judged A → (A → Judged B) → Judg
 Ok found >>= next = next found
 Err first >>= next = Err first
 
+abbrev pub fault_of : {A : Type 0} → Judged A → Option Fault
+fault_of (Ok found) = None
+fault_of (Err first) = Some first
+
 -- the first of two faults
 infixr 20 ◌or◌
 abbrev pub ◌or◌ : Option Fault → Option Fault → Option Fault

@@ -1,5 +1,5 @@
 -- What holds of the module that a text stands for: laws of the definitions, each proved once for the crates above.
-use Rattle.std.specs.Prelude.{◌≡◌, ℕ, ◌≤◌, ◌⊎◌, false, List, [], ◌∷◌, ◌++◌, None, Ok, Err}
+use Rattle.std.specs.Prelude.{◌≡◌, ℕ, ◌≤◌, false, List, [], ◌∷◌, ◌++◌, Ok}
 use Rattle.std.specs.List.{AllByRecursion}
 use Rattle.clvm_spec.specs.Tree.{Tree}
 use Rattle.lisp_spec.specs.Forms.{Form}
@@ -7,50 +7,32 @@ use Rattle.lisp_spec.specs.Heads.{is_reserved}
 use Rattle.lisp_spec.specs.Modules.{Definition, Constant, Module, definition_names, constant_names}
 use Rattle.lisp_spec.specs.Parameters.{parameter_names}
 use Rattle.lisp_spec.specs.Weights.{tree_weight, weight_limit}
-use Rattle.lisp_spec.specs.ModuleFaults.{Fault, is_among}
+use Rattle.lisp_spec.specs.ModuleFaults.{is_among}
 use Rattle.lisp_spec.specs.Inclusion.{Texts}
-use Rattle.lisp_spec.specs.FormParts.{Expression}
-use Rattle.lisp_spec.specs.FormFaults.{Scope, form_fault}
+use Rattle.lisp_spec.specs.Expressions.{Expression}
+use Rattle.lisp_spec.specs.Scopes.{module_scope, IsExpression}
 use Rattle.lisp_spec.specs.Meaning.{module_meaning}
 use Rattle.lisp_spec.specs.Cycles.{reaches_itself}
 use Rattle.lisp_spec.specs.ExpressionWeights.{expression_weight, definition_weight}
-use Rattle.lisp_spec.specs.ModuleOf.{body_scope, module_of}
+use Rattle.lisp_spec.specs.ModuleOf.{module_of}
 
 -- A text, with these library texts, stands for this module.
 abbrev pub StandsFor : Texts → List ℕ → Module → Type 0
 StandsFor texts text m = module_of text texts ≡ Ok m
 
--- This is the first fault of a text.
-abbrev pub HasFirstFault : Texts → List ℕ → Fault → Type 0
-HasFirstFault texts text f = module_of text texts ≡ Err f
-
--- ---- one text has one answer
-
-abbrev pub HasAnAnswer : Type 0
-HasAnAnswer = (texts : Texts) (text : List ℕ) → ((m : Module) × StandsFor texts text m) ⊎ ((f : Fault) × HasFirstFault texts text f)
-
-abbrev pub HasOneModule : Type 0
-HasOneModule = (texts : Texts) (text : List ℕ) (m n : Module) → StandsFor texts text m → StandsFor texts text n → m ≡ n
-
-abbrev pub HasOneFault : Type 0
-HasOneFault = (texts : Texts) (text : List ℕ) (f g : Fault) → HasFirstFault texts text f → HasFirstFault texts text g → f ≡ g
-
-abbrev pub HasNotBoth : Type 0
-HasNotBoth = (texts : Texts) (text : List ℕ) (m : Module) (f : Fault) → StandsFor texts text m → ¬ HasFirstFault texts text f
-
 -- ---- a module without fault
 
--- what may be named in a body of a module with these parameters
-abbrev pub module_scope : Module → Form → Scope
-module_scope m params = body_scope (constant_names m.constants) (definition_names m.functions) (definition_names m.inlines) params
-
--- Each pair of a body is an expression, and each symbol of it names something: the stage of forms finds no fault.
+-- Each pair of a body is an expression, and each symbol of it names something: the body is an expression.
 abbrev pub IsBound : Module → Form → Form → Type 0
-IsBound m params body = form_fault (module_scope m params) Expression body ≡ None
+IsBound m params body = (e : Expression) × IsExpression (module_scope m params) body e
+
+-- So are all its bodies.
+abbrev pub AreBound : Module → Type 0
+AreBound m =
+    AllByRecursion (λ d. IsBound m d.params d.body) m.functions × AllByRecursion (λ d. IsBound m d.params d.body) m.inlines × IsBound m m.params m.body
 
 abbrev pub NamesAreBound : Type 0
-NamesAreBound = (texts : Texts) (text : List ℕ) (m : Module) → StandsFor texts text m →
-    AllByRecursion (λ d. IsBound m d.params d.body) m.functions × AllByRecursion (λ d. IsBound m d.params d.body) m.inlines × IsBound m m.params m.body
+NamesAreBound = (texts : Texts) (text : List ℕ) (m : Module) → StandsFor texts text m → AreBound m
 
 -- No name is there twice.
 abbrev pub Distinct : List (List ℕ) → Type 0
@@ -74,7 +56,7 @@ DefinitionsAreNamed = (texts : Texts) (text : List ℕ) (m : Module) → StandsF
 
 abbrev pub InlinesEnd : Type 0
 InlinesEnd = (texts : Texts) (text : List ℕ) (m : Module) → StandsFor texts text m →
-    AllByRecursion (λ d. reaches_itself m.inlines d.name ≡ false) m.inlines
+    AllByRecursion (λ d. reaches_itself m d.name ≡ false) m.inlines
 
 abbrev pub WeightsAreWithinTheLimit : Type 0
 WeightsAreWithinTheLimit = (texts : Texts) (text : List ℕ) (m : Module) → StandsFor texts text m →

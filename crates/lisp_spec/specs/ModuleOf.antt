@@ -1,19 +1,18 @@
 -- The module that a text stands for, or its first fault. Source: Chialisp reference; the stages, their order and
 -- the limits are this project's own.
-use Rattle.std.specs.Prelude.{ℕ, Bool, false, true, ◌&&◌, ◌||◌, List, [], ◌∷◌, ◌++◌, map, Option, None, Ok, Err, nat_le, not, if◌then◌else◌}
+use Rattle.std.specs.Prelude.{ℕ, Bool, ◌&&◌, ◌||◌, List, [], ◌∷◌, ◌++◌, map, Option, None, Ok, Err, nat_le, not, if◌then◌else◌}
 use Rattle.lisp_spec.specs.Forms.{Form, Place, place_of_form}
-use Rattle.lisp_spec.specs.Modules.{Definition, Constant, Module, definition_names}
-use Rattle.lisp_spec.specs.Parameters.{parameter_names}
+use Rattle.lisp_spec.specs.Modules.{Constant, Module, definition_names}
 use Rattle.lisp_spec.specs.Weights.{weight_limit}
 use Rattle.lisp_spec.specs.Macros as macros
 use Rattle.lisp_spec.specs.Macros.{Macro, MacroFault, turns_of_a_module}
 use Rattle.lisp_spec.specs.Expansion.{Expanded, Expands, Breaks, expansion}
-use Rattle.lisp_spec.specs.ModuleFaults.{Kind, TurnsSpent, BadMacro, TooLarge, InlineCycle, Fault, fault, Judged, ◌>>=◌, ◌or◌, unless, expect}
+use Rattle.lisp_spec.specs.ModuleFaults.{Kind, TurnsSpent, BadMacro, TooLarge, InlineCycle, Fault, fault, Judged, ◌>>=◌, ◌or◌, unless, expect, fault_of}
 use Rattle.lisp_spec.specs.Definitions as roles
 use Rattle.lisp_spec.specs.Definitions.{Written, Inline, is_role, names_of, constants_in, macros_in, without_macros, functions_in, inlines_in}
 use Rattle.lisp_spec.specs.Inclusion.{Texts, Parts, parts_of_text, definitions_of}
-use Rattle.lisp_spec.specs.FormParts.{Expression}
-use Rattle.lisp_spec.specs.FormFaults.{Scope, form_fault}
+use Rattle.lisp_spec.specs.Expressions.{Scope, expression_of}
+use Rattle.lisp_spec.specs.Scopes.{constant_scope, body_scope}
 use Rattle.lisp_spec.specs.Constants.{constants_after}
 use Rattle.lisp_spec.specs.Cycles.{reaches_itself}
 use Rattle.lisp_spec.specs.ExpressionWeights.{expression_weight}
@@ -63,15 +62,6 @@ draft_of parts written = draft_with (map macro_of (macros_in written)) parts (wi
 
 -- ---- forms and names
 
--- In a constant earlier constants may be named, and `a` may not be a head.
-abbrev pub constant_scope : List (List ℕ) → Scope
-constant_scope earlier = record { symbols = earlier; calls = []; may_run = false }
-
--- In a body its parameters and all constants may be named, and all functions and inlines called.
-abbrev pub body_scope : (constants functions inlines : List (List ℕ)) → Form → Scope
-body_scope constants functions inlines params =
-    record { symbols = parameter_names params ++ constants; calls = functions ++ inlines; may_run = true }
-
 abbrev pub draft_scope : List Written → Form → Scope
 draft_scope definitions params =
     body_scope (names_of (constants_in definitions)) (definition_names (functions_in definitions)) (definition_names (inlines_in definitions)) params
@@ -81,13 +71,13 @@ abbrev pub forms_fault : (Form → Scope) → List (List ℕ) → List Written �
 forms_fault scope earlier [] = None
 forms_fault scope earlier (d ∷ definitions) =
     if is_role roles.Constant d.role
-    then form_fault (constant_scope earlier) Expression d.body or forms_fault scope (earlier ++ d.name ∷ []) definitions
-    else form_fault (scope d.params) Expression d.body or forms_fault scope earlier definitions
+    then fault_of (expression_of d.body (constant_scope earlier)) or forms_fault scope (earlier ++ d.name ∷ []) definitions
+    else fault_of (expression_of d.body (scope d.params)) or forms_fault scope earlier definitions
 
 abbrev pub draft_fault : Draft → Option Fault
 draft_fault draft =
     forms_fault (draft_scope draft.definitions) [] draft.definitions
-    or form_fault (draft_scope draft.definitions draft.params) Expression draft.body
+    or fault_of (expression_of draft.body (draft_scope draft.definitions draft.params))
 
 -- ---- constants, inlines and weights
 
@@ -101,10 +91,10 @@ module_with draft constants = record {
 }
 
 -- the first inline that reaches itself
-abbrev pub cycle_fault : List Definition → List Written → Option Fault
-cycle_fault inlines [] = None
-cycle_fault inlines (d ∷ definitions) =
-    expect (not (is_role Inline d.role && reaches_itself inlines d.name)) InlineCycle d.place or cycle_fault inlines definitions
+abbrev pub cycle_fault : Module → List Written → Option Fault
+cycle_fault m [] = None
+cycle_fault m (d ∷ definitions) =
+    expect (not (is_role Inline d.role && reaches_itself m d.name)) InlineCycle d.place or cycle_fault m definitions
 
 -- An expression is within the limit of weights.
 abbrev pub is_light : Module → Form → Form → Bool
@@ -119,7 +109,7 @@ weights_fault m (d ∷ definitions) =
 -- then the body, at the place where its text begins
 abbrev pub module_fault : Draft → Module → Option Fault
 module_fault draft m =
-    cycle_fault m.inlines draft.definitions
+    cycle_fault m draft.definitions
     or weights_fault m draft.definitions
     or expect (is_light m m.params m.body) TooLarge draft.body_place
 

@@ -1,14 +1,6 @@
 //! Laws of the module that a text stands for. Each is the contract of a function that does nothing.
 
-ghost use Rattle.lisp_spec.specs.ModuleLaws.{HasAnAnswer, HasOneModule, HasOneFault, HasNotBoth, NamesAreBound, NoNameIsWithoutMeaning, ParametersAreDistinct, DefinitionsAreNamed, InlinesEnd, WeightsAreWithinTheLimit, ValuesAreWithinTheLimit};
-
-/// A text stands for one module, or has one first fault, and not both.
-pub fn texts_have_one_answer()
-    ensures some { HasAnAnswer }
-    ensures module { HasOneModule }
-    ensures fault { HasOneFault }
-    ensures either { HasNotBoth }
-{}
+ghost use Rattle.lisp_spec.specs.ModuleLaws.{NamesAreBound, NoNameIsWithoutMeaning, ParametersAreDistinct, DefinitionsAreNamed, InlinesEnd, WeightsAreWithinTheLimit, ValuesAreWithinTheLimit};
 
 /// In a module without fault every name is bound, the names of one tree of parameters are distinct, and so are those of
 /// definitions, none of which is a name of the language.

@@ -1,5 +1,6 @@
 mod AdmissionRows
 mod AssemblyRows
+pub mod FirstLaws
 pub mod FitLaws
 mod FitRows
 mod LineageRows
@@ -8,3 +9,4 @@ mod RateRows
 pub mod ReplacedLaws
 pub mod RowParts
 mod ShapeRows
+mod SingletonRows

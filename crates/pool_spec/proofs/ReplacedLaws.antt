@@ -10,7 +10,7 @@ use Rattle.judge_spec.specs.declared.rule.Rule.TheVariants.{NoSpend, InPool, Poo
 use Rattle.pool_spec.specs.Prices.{Refusal, refusal, refusal_at, if_found, Priced, priced, bundles_of, costs_of}
 use Rattle.pool_spec.specs.Replacement.{do_conflict, replaced_by, kept_by, unreplaced}
 use Rattle.pool_spec.specs.Pool.{PoolState, priced_in, AdmittedView, Admission, Admits, Refuses, unless_refused, where_ok, in_pool, no_spend, with_room, told_of, entered, admission}
-use Rattle.pool_spec.specs.PoolLaws.{IsMerged, ReplacedAreOthers}
+use Rattle.pool_spec.specs.PoolLaws.{AllArePriced, StayingArePriced, AdmittedArePriced, IsMerged, ReplacedAreOthers}
 use Rattle.pool_spec.proofs.PriceLaws.{inside, priced-is-fine}
 
 not-refused : (broken : Option Refusal) (found : Admission) (told : AdmittedView) (next : PoolState) → unless_refused broken found ≡ Admits told next → found ≡ Admits told next
@@ -59,6 +59,10 @@ all-priced limits ledger (bundle ∷ bundles) all =
     ap (λ found. bundles_of (cons_option (if_found found) (filter_map (λ bundle. if_found (priced limits ledger bundle)) bundles))) all.0.1
     ∙ (λ j. (priced-is-fine limits ledger bundle item all.0.1).itself j ∷ all-priced limits ledger bundles all.1 j)
 
+entered-as : (state : PoolState) (rest stays : List Priced) (new : Priced) (bundle : Bundle) → rest ≡ stays → new.bundle ≡ bundle
+    → entered state stays new ≡ record state { bundles = bundles_of rest ++ bundle ∷ [] }
+entered-as state rest stays new bundle same is = λ j. record state { bundles = bundles_of (sym same j) ++ is j ∷ [] }
+
 pub replaced-are-others : ReplacedAreOthers
 unfolding admission
 replaced-are-others state bundle told next all e =
@@ -75,10 +79,47 @@ replaced-are-others state bundle told next all e =
     let same = admits-apart (told_of new items) told (entered state room.0 new) next room.2 in
     let bundle_is = (priced-is-fine state.limits ledger bundle new price.1).itself in
     record {
+      item = new;
+      price = price.1;
+      told_fee = ap (λ view. view.fee) (sym same.0);
+      told_cost = ap (λ view. view.cost) (sym same.0);
       replaced = bundles_of (replaced_by new items);
       rest = bundles_of (kept_by new items);
       told_ids = ap (λ view. view.replaced) (sym same.0);
       told_id = ap (λ view. view.id) (sym same.0) ∙ ap bundle_id bundle_is;
-      after = sym same.1 ∙ ap (λ list. record state { bundles = bundles_of list ++ new.bundle ∷ [] }) (sym rest) ∙ ap (λ last. record state { bundles = bundles_of (kept_by new items) ++ last ∷ [] }) bundle_is;
+      after = sym same.1 ∙ entered-as state (kept_by new items) room.0 new bundle rest bundle_is;
       others = subst (IsMerged (bundles_of (replaced_by new items)) (bundles_of (kept_by new items))) (all-priced state.limits ledger state.bundles all) (merged (do_conflict new) items);
     }
+
+-- ---- every bundle has a price
+
+staying : (limits : Limits) (ledger : Ledger) (bundles : List Bundle)
+    → AllByRecursion (λ bundle. (item : Priced) × (priced limits ledger bundle ≡ Ok item)) (bundles_of (filter_map (λ bundle. if_found (priced limits ledger bundle)) bundles))
+staying limits ledger [] = tt
+staying limits ledger (bundle ∷ bundles) = by_price (priced limits ledger bundle) refl (staying limits ledger bundles)
+  where
+    by_price : (found : Result Priced Refusal) → priced limits ledger bundle ≡ found
+        → AllByRecursion (λ bundle. (item : Priced) × (priced limits ledger bundle ≡ Ok item)) (bundles_of (filter_map (λ bundle. if_found (priced limits ledger bundle)) bundles))
+        → AllByRecursion (λ bundle. (item : Priced) × (priced limits ledger bundle ≡ Ok item)) (bundles_of (cons_option (if_found found) (filter_map (λ bundle. if_found (priced limits ledger bundle)) bundles)))
+    by_price (Ok item) is more = ((item, ap (priced limits ledger) (priced-is-fine limits ledger bundle item is).itself ∙ is), more)
+    by_price (Err refusal) is more = more
+
+pub staying-are-priced : StayingArePriced
+staying-are-priced state = staying state.limits (ledger_of state.chain) state.bundles
+
+-- what holds of a merged list holds of its second part
+of-part : (P : Bundle → Type 0) (xs ys zs : List Bundle) → IsMerged xs ys zs → AllByRecursion P zs → AllByRecursion P ys
+of-part P xs ys [] is all = subst (AllByRecursion P) (sym is.1) tt
+of-part P xs ys (z ∷ zs) (inl is) all = of-part P is.0 ys zs is.2 all.1
+of-part P xs ys (z ∷ zs) (inr is) all = subst (AllByRecursion P) (sym is.1) (all.0, of-part P xs is.0 zs is.2 all.1)
+
+with-last : (P : Bundle → Type 0) (ys : List Bundle) (last : Bundle) → AllByRecursion P ys → P last → AllByRecursion P (ys ++ last ∷ [])
+with-last P [] last all is = (is, tt)
+with-last P (y ∷ ys) last all is = (all.0, with-last P ys last all.1 is)
+
+pub admitted-are-priced : AdmittedArePriced
+admitted-are-priced state bundle told next all e =
+    let has = replaced-are-others state bundle told next all e in
+    let HasPrice : Bundle → Type 0 = λ bundle. (item : Priced) × (priced state.limits (ledger_of state.chain) bundle ≡ Ok item) in
+    subst AllArePriced (sym has.after)
+    (with-last HasPrice has.rest bundle (of-part HasPrice has.replaced has.rest state.bundles has.others all) (has.item, has.price))

@@ -11,6 +11,7 @@ pub mod FirstRuns
 pub mod FirstJudgement
 pub mod Payment
 pub mod FirstAdmission
+pub mod FirstLaws
 pub mod Admission
 pub mod Step
 pub mod History

@@ -18,7 +18,7 @@ use Rattle.judge_spec.specs.Agreement.{AgreeOn}
 use Rattle.pool_spec.specs.Classes.{class_of, classes_of}
 use Rattle.pool_spec.specs.Fit.{Taken, nothing_taken, unspent_coins, coins_left, only_coin, fit_of}
 use Rattle.pool_spec.specs.Prices.{Priced, priced}
-use Rattle.pool_spec.specs.Pool.{PoolState, AdmittedView, Admits, admission}
+use Rattle.pool_spec.specs.Pool.{PoolState, AdmittedView, Admits, admission, after_peak_change}
 
 -- ---- what a fit looks at
 
@@ -83,8 +83,13 @@ abbrev pub AllArePriced : PoolState → Type 0
 AllArePriced state =
     AllByRecursion (λ bundle. (item : Priced) × (priced state.limits (ledger_of state.chain) bundle ≡ Ok item)) state.bundles
 
--- The replaced bundles stood in the pool, and are told in its order. The others stay in order, and the new one goes last.
+-- The new bundle has a price, which is told. The replaced bundles stood in the pool, and are told in its order. The others
+-- stay in order, and the new one goes last.
 pub record HasReplaced (state : PoolState) (bundle : Bundle) (told : AdmittedView) (next : PoolState) : Type 0 where
+  pub item : Priced
+  pub price : priced state.limits (ledger_of state.chain) bundle ≡ Ok item
+  pub told_fee : told.fee ≡ item.fee
+  pub told_cost : told.cost ≡ item.cost
   pub replaced : List Bundle
   pub rest : List Bundle
   pub told_ids : told.replaced ≡ map bundle_id replaced
@@ -95,3 +100,14 @@ pub record HasReplaced (state : PoolState) (bundle : Bundle) (told : AdmittedVie
 abbrev pub ReplacedAreOthers : Type 0
 ReplacedAreOthers = (state : PoolState) (bundle : Bundle) (told : AdmittedView) (next : PoolState) → AllArePriced state →
     admission state bundle ≡ Admits told next → HasReplaced state bundle told next
+
+-- ---- every bundle of a pool has a price
+
+-- After a change of the peak each bundle that stays has one.
+abbrev pub StayingArePriced : Type 0
+StayingArePriced = (state : PoolState) → AllArePriced (after_peak_change state)
+
+-- After an admission each still has one.
+abbrev pub AdmittedArePriced : Type 0
+AdmittedArePriced = (state : PoolState) (bundle : Bundle) (told : AdmittedView) (next : PoolState) → AllArePriced state →
+    admission state bundle ≡ Admits told next → AllArePriced next

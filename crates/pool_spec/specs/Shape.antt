@@ -166,10 +166,9 @@ pub record Shape : Type 0 where
   pub spend : Spend
   pub solution : Solution
 
--- the shape, or the first check that is broken
-unfoldable pub shape_of : (limit : ℕ) → (singleton : Hash32) → Spend → Result Shape ℕ
-shape_of limit singleton spend =
-    where_found 1 (layer_of (spelled_tree spend.puzzle)) (λ layer.
+-- checks 2 to 9
+abbrev pub shape_by_layer : ℕ → Hash32 → Spend → Layer → Result Shape ℕ
+shape_by_layer limit singleton spend layer =
     where_held 2 (is_top_layer singleton layer) (
     where_held 3 (is_struct_of singleton layer.singleton_struct) (
     where_found 4 (solution_of spend) (λ solution.
@@ -179,4 +178,8 @@ shape_of limit singleton spend =
     where_found 8 (run_conditions limit spend) (λ conditions.
     where_held 8 (makes_itself spend conditions) (
     where_held 9 (not (list_any binds_to_coin conditions)) (
-    Ok (record { spend = spend; solution = solution })))))))))))
+    Ok (record { spend = spend; solution = solution }))))))))))
+
+-- the shape, or the first check that is broken
+unfoldable pub shape_of : (limit : ℕ) → (singleton : Hash32) → Spend → Result Shape ℕ
+shape_of limit singleton spend = where_found 1 (layer_of (spelled_tree spend.puzzle)) (shape_by_layer limit singleton spend)

@@ -1,18 +1,12 @@
 -- A bundle as a JSON object. Source: this project's own, with the members of the Chia documentation.
 use Rattle.std.specs.Prelude.{List, [], ◌∷◌, Option, Some, None, codes}
-use Rattle.serde_json.specs.Data.{Data, Items, no_items, item}
-use Rattle.serde_json.specs.Find.{get, as_array}
+use Rattle.serde_json.specs.Data.{Data}
+use Rattle.serde_json.specs.Find.{get}
 use Rattle.block_spec.specs.declared.spend.Spend.{Spend}
 use Rattle.block_spec.specs.declared.bundle.Bundle.{Bundle}
 use Rattle.session_spec.specs.Steps.{◌>>=◌, all_of}
 use Rattle.session_spec.specs.Members.{member, code, coin}
-
-abbrev pub values_of : Items → List Data
-values_of no_items = []
-values_of (item value values) = value ∷ values_of values
-
-abbrev pub values : Data → Option (List Data)
-values value = as_array value >>= λ items. Some (values_of items)
+pub use Rattle.session_spec.specs.Values.{values_of, values}
 
 abbrev pub spend : Data → Option Spend
 spend value = do

@@ -1,7 +1,6 @@
 -- The sessions that are built so far: of one admission and of looks at coins. Source: this project's own.
 use Rattle.std.specs.Prelude.{ℕ, ◌&&◌, ◌==◌, List, [], ◌∷◌, ◌++◌, length, map, take, drop, nat_le, Bool, false, not, is_none, Option, Some, None, if◌then◌else◌, codes}
 use Rattle.std.specs.List.{prefix_len, repeat}
-use Rattle.std.specs.Str.{bytes_eq}
 use Rattle.serde_json.specs.Data.{Data}
 use Rattle.serde_json.specs.Find.{as_str}
 use Rattle.coin_facts.specs.declared.hash32.Hash32.{Hash32}
@@ -17,6 +16,7 @@ use Rattle.pool_spec.specs.Step.{Admit, LookUp}
 use Rattle.pool_spec.specs.History.{Session}
 use Rattle.session_spec.specs.Steps.{◌>>=◌, all_of}
 use Rattle.session_spec.specs.Members.{has, member, whole, hash, coin}
+use Rattle.session_spec.specs.Values.{is_text}
 use Rattle.session_spec.specs.Bundles.{bundle}
 use Rattle.session_spec.specs.Lines.{lines, object_of}
 
@@ -50,10 +50,6 @@ header line = do
 
 abbrev pub coin_of : Data → Option Coin
 coin_of line = member (codes "coin") coin line
-
-abbrev pub is_text : List ℕ → Option (List ℕ) → Bool
-is_text word None = false
-is_text word (Some text) = bytes_eq text word
 
 abbrev pub does : List ℕ → Data → Bool
 does word line = is_command_line line && not (has (codes "lane") line) && is_text word (member (codes "do") as_str line)
@@ -97,12 +93,12 @@ with_coins chain count lines = do
   started ← start_coins chain coins
   with_commands started (drop count lines)
 
-abbrev pub session_of_lines : List Data → Option Session
-session_of_lines [] = None
-session_of_lines (line ∷ lines) = do
+abbrev pub first_form_of_lines : List Data → Option Session
+first_form_of_lines [] = None
+first_form_of_lines (line ∷ lines) = do
   chain ← header line
   with_coins chain (prefix_len is_coin_line lines) lines
 
 -- the session of an input of at most 65,536 bytes, where it is of this form
-unfoldable pub session_of : List ℕ → Option Session
-session_of input = if nat_le (length input) 65_536 then all_of object_of (lines input) >>= session_of_lines else None
+unfoldable pub first_form_of : List ℕ → Option Session
+first_form_of input = if nat_le (length input) 65_536 then all_of object_of (lines input) >>= first_form_of_lines else None

@@ -15,5 +15,7 @@ pub mod CommandLines
 pub mod Sessions
 pub mod Words
 pub mod Outputs
+pub mod SessionOutputs
 pub mod Replays
 pub mod Making
+pub mod ConditionNames

@@ -11,9 +11,8 @@ use Rattle.lisp_spec.specs.Modules.{Module}
 use Rattle.session_spec.specs.declared.member.Member.{Member}
 use Rattle.session_spec.specs.MemberNames.{name_of}
 use Rattle.session_spec.specs.LineFaults.{What, Missing, Bad, UnknownName}
-use Rattle.session_spec.specs.Bundles.{values}
 use Rattle.session_spec.specs.Results.{◌>>=◌, each_of}
-use Rattle.session_spec.specs.Values.{is_name, text_of_hash, text_of_code}
+use Rattle.session_spec.specs.Values.{values, is_name, text_of_hash, text_of_code}
 
 -- ---- the value of a member
 
@@ -63,15 +62,11 @@ abbrev pub hash_value : List Compiled → Data → Result Hash32 Wrong
 hash_value modules value = text_or_name (λ m. hash_of_tree (spelled_tree m.code)) text_of_hash modules value
 
 -- Of a list of codes each is of the form before one may name a module that isn't there.
-abbrev pub worse : Wrong → Wrong → Wrong
-worse NotOfItsForm other = NotOfItsForm
-worse NoSuchModule other = other
-
 abbrev pub with_code : Result (List ℕ) Wrong → Result (List (List ℕ)) Wrong → Result (List (List ℕ)) Wrong
-with_code (Ok code) (Ok codes) = Ok (code ∷ codes)
-with_code (Ok code) (Err wrong) = Err wrong
-with_code (Err wrong) (Ok codes) = Err wrong
-with_code (Err wrong) (Err other) = Err (worse wrong other)
+with_code (Ok code) others = others >>= λ codes. Ok (code ∷ codes)
+with_code (Err NotOfItsForm) others = Err NotOfItsForm
+with_code (Err NoSuchModule) (Ok codes) = Err NoSuchModule
+with_code (Err NoSuchModule) (Err wrong) = Err wrong
 
 abbrev pub codes_of : List Compiled → List Data → Result (List (List ℕ)) Wrong
 codes_of modules [] = Ok []

@@ -10,18 +10,13 @@ use Rattle.clvm_spec.specs.Spelling.{spelling}
 use Rattle.clvm_spec.specs.Hashing.{tree_hash}
 use Rattle.coin_facts.specs.Atoms.{number_atom}
 use Rattle.cond_spec.specs.declared.codes.TheConstants.{CREATE_COIN}
+use Rattle.session_spec.specs.declared.making.TheConstants.{MULTIPLIER, INCREMENT, LEAST_AMOUNT, FEE, FARM_EVERY, SECONDS_APART}
 
 -- ---- numbers that follow a seed
 
-abbrev pub multiplier : ℕ
-multiplier = 6364136223846793005
-
-abbrev pub increment : ℕ
-increment = 1442695040888963407
-
 abbrev pub number_behind : (seed count : ℕ) → ℕ
 number_behind seed zero = seed
-number_behind seed (suc count) = (number_behind seed count * multiplier + increment) % 2 ^ 64
+number_behind seed (suc count) = (number_behind seed count * MULTIPLIER + INCREMENT) % 2 ^ 64
 
 -- ---- what stands in the lines
 
@@ -45,14 +40,14 @@ payment amount = list_tree (list_tree (Atom (CREATE_COIN ∷ []) ∷ Atom puzzle
 
 -- Every eighth command is a farm, the others are admits.
 abbrev pub is_farm : ℕ → Bool
-is_farm i = i % 8 == 7
+is_farm i = i % FARM_EVERY == FARM_EVERY - 1
 
--- a coin of its own for each admit: its number as parent, and 1000 and the top 20 bits of a number as amount
+-- a coin of its own for each admit: its number as parent, and the top 20 bits of a number of the list above the least amount
 abbrev pub parent_of : ℕ → List ℕ
 parent_of i = replicate 24 0 ++ to_be_bytes w64 i
 
 abbrev pub amount_of_coin : (seed i : ℕ) → ℕ
-amount_of_coin seed i = 1000 + number_behind seed (suc i) / 2 ^ 44
+amount_of_coin seed i = LEAST_AMOUNT + number_behind seed (suc i) / 2 ^ 44
 
 -- ---- lines
 
@@ -68,17 +63,17 @@ made_header lanes =
 abbrev pub made_coin : (seed i : ℕ) → List ℕ
 made_coin seed i = codes "{\"coin\":" ++ coin_object seed i ++ codes "}" ++ line_feed
 
--- The bundle leaves 100 of its coin as fee.
+-- The bundle leaves a fee of its coin.
 abbrev pub made_admit : (seed lanes i : ℕ) → List ℕ
 made_admit seed lanes i =
     codes "{\"lane\":" ++ decimal (i % lanes) ++ codes ",\"do\":\"admit\",\"bundle\":{\"coin_spends\":[{\"coin\":" ++ coin_object seed i
     ++ codes ",\"puzzle_reveal\":\"" ++ encode_lower (spelling puzzle)
-    ++ codes "\",\"solution\":\"" ++ encode_lower (spelling (payment (amount_of_coin seed i - 100)))
+    ++ codes "\",\"solution\":\"" ++ encode_lower (spelling (payment (amount_of_coin seed i - FEE)))
     ++ codes "\"}],\"aggregated_signature\":\"\"}}" ++ line_feed
 
 abbrev pub made_farm : ℕ → List ℕ
 made_farm i =
-    codes "{\"lane\":0,\"do\":\"farm\",\"seconds\":" ++ decimal (100 * (i + 1)) ++ codes ",\"reward_hash\":\"" ++ encode_lower reward_hash ++ codes "\"}" ++ line_feed
+    codes "{\"lane\":0,\"do\":\"farm\",\"seconds\":" ++ decimal (SECONDS_APART * (i + 1)) ++ codes ",\"reward_hash\":\"" ++ encode_lower reward_hash ++ codes "\"}" ++ line_feed
 
 abbrev pub coin_if_admit : (seed i : ℕ) → List ℕ
 coin_if_admit seed i = if is_farm i then [] else made_coin seed i

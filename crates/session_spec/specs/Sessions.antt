@@ -26,7 +26,7 @@ use Rattle.session_spec.specs.declared.member.Member.TheVariants as member
 use Rattle.session_spec.specs.MemberNames.{name_of}
 use Rattle.session_spec.specs.LineFaults.{What, OutOfOrder, Missing, NameTwice, CoinTwice, InModule, TooLarge, TooMany}
 use Rattle.session_spec.specs.Results.{◌>>=◌, unless}
-use Rattle.session_spec.specs.Values.{number_between, whole_number, bytes_of_hash, module_name}
+use Rattle.session_spec.specs.Values.{is_text, number_between, whole_number, bytes_of_hash, module_name}
 use Rattle.session_spec.specs.LineMembers.{Compiled, module_named, plain, code_value, code_values, hash_value, required, optional}
 use Rattle.session_spec.specs.BundleMembers.{coin_member}
 use Rattle.session_spec.specs.CommandLines.{command_in}
@@ -207,23 +207,19 @@ HasCode (Some source) code = IsCodeOf source code
 abbrev pub AreCompiled : List Compiled → Type 0
 AreCompiled modules = AllByRecursion (λ m. HasCode m.source m.code) modules
 
--- The input is this session, with some codes that agree with its modules.
-pub record IsSession (texts : Texts) (input : List ℕ) (session : Session) : Type 0 where
-  pub codes : List (List ℕ)
-  pub reads : session_of texts codes input ≡ Ok session
-  pub compiled : AreCompiled session.modules
+-- the modules that were read: those of the session, or of the lines before the faulty one
+abbrev pub modules_in : Result Session Faulty → List Compiled
+modules_in (Ok session) = session.modules
+modules_in (Err faulty) = faulty.modules
 
--- The input has this first faulty line, with some codes that agree with the modules before it.
-pub record IsFaulty (texts : Texts) (input : List ℕ) (faulty : Faulty) : Type 0 where
+-- The input is read so, by one list of codes that agree with the modules that were read. All that is said of one call speaks of
+-- one such result.
+pub record IsReadWithCodes (texts : Texts) (input : List ℕ) (result : Result Session Faulty) : Type 0 where
   pub codes : List (List ℕ)
-  pub reads : session_of texts codes input ≡ Err faulty
-  pub compiled : AreCompiled faulty.modules
+  pub reads : session_of texts codes input ≡ result
+  pub compiled : AreCompiled (modules_in result)
 
 -- ---- replays
-
-abbrev pub is_text : List ℕ → Option (List ℕ) → Bool
-is_text word None = false
-is_text word (Some text) = bytes_eq text word
 
 abbrev pub does_block : Data → Bool
 does_block fields = is_text (codes "block") (option_and_then as_str (get (name_of member.Do) fields))

@@ -5,24 +5,11 @@ use Rattle.std.specs.Fmt.{decimal}
 use Rattle.hex.specs.Hex.{encode_lower}
 pub use Rattle.clvm_spec.specs.Lines.{line_feed}
 use Rattle.coin_facts.specs.declared.hash32.Hash32.{Hash32}
+pub use Rattle.session_spec.specs.Words.{spaced, id_word, number_word, spent_word}
 use Rattle.chain_spec.specs.declared.chain.Record.{Record}
 use Rattle.pool_spec.specs.Admission.{Admission, Admitted, Refused}
 use Rattle.pool_spec.specs.Step.{Reply, Answered, NoCoin, Found, Memory}
 use Rattle.pool_spec.specs.History.{Entry}
-
--- a word behind a space
-abbrev pub spaced : List ℕ → List ℕ
-spaced word = 32 ∷ word
-
-abbrev pub id_word : Hash32 → List ℕ
-id_word id = spaced (encode_lower id.bytes)
-
-abbrev pub number_word : ℕ → List ℕ
-number_word n = spaced (decimal n)
-
-abbrev pub spent_word : Option ℕ → List ℕ
-spent_word None = spaced (codes "-")
-spent_word (Some height) = number_word height
 
 abbrev pub admission_text : Admission → List ℕ
 admission_text (Admitted id fee cost replaced) = codes "admitted" ++ id_word id ++ number_word fee ++ number_word cost ++ flat_map id_word replaced

@@ -1,11 +1,11 @@
 -- What the values of members are read as, where they have the form. Source: JSON is that of RFC 8259 as the toolchain's reader
 -- has it; the forms are this project's own.
-use Rattle.std.specs.Prelude.{ℕ, ◌^◌, ◌-◌, ◌&&◌, ◌==◌, List, [], ◌∷◌, length, drop, nat_le, Bool, Option, Some, None, codes, if◌then◌else◌}
+use Rattle.std.specs.Prelude.{ℕ, ◌^◌, ◌-◌, ◌&&◌, ◌==◌, List, [], ◌∷◌, length, drop, nat_le, bytes_eq, Bool, false, Option, Some, None, codes, if◌then◌else◌}
 use Rattle.std.specs.List.{list_all, list_any}
 use Rattle.std.specs.Result.{result_ok}
 use Rattle.hex.specs.Hex.{decode_of}
-use Rattle.serde_json.specs.Data.{Data}
-use Rattle.serde_json.specs.Find.{as_number, as_str, as_u64}
+use Rattle.serde_json.specs.Data.{Data, Items, no_items, item}
+use Rattle.serde_json.specs.Find.{as_array, as_number, as_str, as_u64}
 use Rattle.clvm_spec.specs.Tokens.{has_hex_mark}
 use Rattle.clvm_spec.specs.declared.limits.TheConstants.{MOST_SPELLED}
 use Rattle.clvm_spec.specs.Spelled.{if_spelled}
@@ -15,7 +15,6 @@ use Rattle.block_spec.specs.declared.attested.Signed.{Signed}
 use Rattle.session_spec.specs.declared.limits.TheConstants.{MOST_NAME}
 use Rattle.session_spec.specs.Steps.{◌>>=◌, all_of, when}
 use Rattle.session_spec.specs.Lines.{if_object}
-use Rattle.session_spec.specs.Bundles.{values}
 
 -- ---- numbers
 
@@ -31,6 +30,10 @@ abbrev pub whole_number : Data → Option ℕ
 whole_number value = number_between 0 (2 ^ 64 - 1) value
 
 -- ---- texts
+
+abbrev pub is_text : List ℕ → Option (List ℕ) → Bool
+is_text word None = false
+is_text word (Some text) = bytes_eq text word
 
 -- A name has 1 to 64 small letters, digits, `_` or `-`.
 abbrev pub is_name_byte : ℕ → Bool
@@ -71,6 +74,13 @@ abbrev pub text_of_code : List ℕ → Option (List ℕ)
 text_of_code text = hexadecimal text >>= if_spelled
 
 -- ---- lists
+
+abbrev pub values_of : Items → List Data
+values_of no_items = []
+values_of (item value values) = value ∷ values_of values
+
+abbrev pub values : Data → Option (List Data)
+values value = as_array value >>= λ items. Some (values_of items)
 
 abbrev pub objects : Data → Option (List Data)
 objects value = values value >>= all_of if_object

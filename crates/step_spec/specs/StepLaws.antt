@@ -2,6 +2,7 @@
 use Rattle.std.specs.Prelude.{◌≡◌, ℕ, ◌==◌, List, ◌++◌, map, filter, length, slice_get, Some}
 use Rattle.std.specs.List.{range_with_len}
 use Rattle.pool_spec.specs.Pool.{PoolState}
+use Rattle.pool_spec.specs.PoolLaws.{AllArePriced}
 use Rattle.step_spec.specs.declared.command.Command.{Command}
 use Rattle.step_spec.specs.declared.reply.Reply.TheVariants.{Memory}
 use Rattle.step_spec.specs.declared.entry.Entry.{Entry}
@@ -41,3 +42,11 @@ abbrev pub LegalIsInOrder : Type 0
 LegalIsInOrder = (opening : Opening) (entries : List Entry) → IsLegal opening entries →
     (lane : ℕ) (commands : List Command) → slice_get opening.lanes lane ≡ Some commands →
     numbers_of entries lane ≡ range_with_len 0 (length commands)
+
+-- Where every bundle of the opening's pool has a price, so has every one of a pool to which a history leads.
+abbrev pub StepKeepsPriced : Type 0
+StepKeepsPriced = (state : PoolState) (command : Command) → AllArePriced state → AllArePriced (step state command).state
+
+abbrev pub HistoryKeepsPriced : Type 0
+HistoryKeepsPriced = (opening : Opening) (entries : List Entry) (end : PoolState) → AllArePriced opening.state →
+    LeadsTo opening entries end → AllArePriced end

@@ -2,7 +2,7 @@
 ghost use Rattle.std.specs.Prelude.{◌≤◌, Some};
 
 use super::*;
-use ports_io::Failed;
+use ports_io::{Failed, Source};
 
 fn source(
     alloc: Global,
@@ -75,6 +75,20 @@ fn a_source_that_fails(rt: HostRuntime) -> Result<(), Fail> {
 }
 
 #[test]
+fn nothing_is_read_behind_a_fault_of_the_source(rt: HostRuntime) -> Result<(), Fail> {
+    let alloc = rt.alloc();
+    let input = example(alloc, "")?;
+    let mut source = source(alloc, &input, 100, vec![in alloc; 1]?)?;
+    let mut sink = MemorySink::new(alloc, Vec::new(alloc));
+    assert_eq!(rt; run_session(alloc, &mut source, &mut sink)?, 3);
+    // The next read gives what stands behind the one piece that was taken.
+    let mut next = [0; 100];
+    assert!(rt; matches!(source.read(&mut next), Ok(100)));
+    assert!(rt; next.as_slice() == &input.as_bytes()[100..200]);
+    Ok(())
+}
+
+#[test]
 fn a_sink_that_fails(rt: HostRuntime) -> Result<(), Fail> {
     let alloc = rt.alloc();
     let input = example(alloc, "")?;
@@ -89,11 +103,19 @@ fn a_sink_that_fails(rt: HostRuntime) -> Result<(), Fail> {
 #[test]
 fn a_sink_that_fails_at_a_line_keeps_the_status(rt: HostRuntime) -> Result<(), Fail> {
     let alloc = rt.alloc();
-    let mut source = source(alloc, "", 1_000, vec![in alloc; 0]?)?;
-    let mut sink = MemorySink::new(alloc, vec![in alloc; 0]?);
-    let status = run_session(alloc, &mut source, &mut sink)?;
-    assert_eq!(rt; status, 3);
-    assert!(rt; sink.bytes().is_empty());
+    for (arguments, input, failing, expected) in [
+        ("session", "", 0, 3),
+        ("session", "", 1, 1),
+        ("hash", "8080", 2, 1),
+        ("session x", "", 1, 2),
+    ] {
+        let arguments = words(alloc, arguments)?;
+        let mut source = source(alloc, input, 1_000, vec![in alloc; failing]?)?;
+        let mut sink = MemorySink::new(alloc, vec![in alloc; 0]?);
+        let status = run_with(alloc, &arguments, &mut source, &mut sink);
+        assert_eq!(rt; status, expected, "{input}");
+        assert!(rt; sink.bytes().is_empty(), "{input}");
+    }
     Ok(())
 }
 

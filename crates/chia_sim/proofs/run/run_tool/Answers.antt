@@ -1,3 +1,4 @@
+use Rattle.ports_io.proofs.OutsideLemmas.{Stays-refl}
 use Rattle.chia_sim.proofs.Endings.{ends-no_command, ends-complete, ends-fault, ends-too_long, ends-read_fault, ends-write_fault}
 use Rattle.chia_sim.proofs.run.run_tool.Goals as goal
 
@@ -18,3 +19,6 @@ returns-clause-read_fault g c = ends-read_fault _ _ _ _ c.run_words.ensures.head
 
 pub returns-clause-write_fault : goal.returns-clause-write_fault
 returns-clause-write_fault g c = ends-write_fault _ _ _ _ c.run_words.ensures.headline
+
+pub returns-clause-library_texts : goal.returns-clause-library_texts
+returns-clause-library_texts g c = Stays-refl _

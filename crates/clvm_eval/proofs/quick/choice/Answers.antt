@@ -1,5 +1,6 @@
 use Rattle.clvm_spec.specs.declared.costs.TheConstants.{CHOICE_COST}
-use Rattle.clvm_eval.proofs.QuickLaws.{three_operands, quickly_same, choice_is}
+use Rattle.clvm_tree.proofs.OperandLists.{three_operands}
+use Rattle.clvm_eval.proofs.QuickLaws.{quickly_same, choice_is}
 use Rattle.clvm_eval.proofs.quick.choice.Goals as goal
 
 pub returns-then-is_nil : goal.returns-then-is_nil

@@ -4,7 +4,8 @@ use Rattle.std.proofs.lemmas.Int.{to_z-of_z}
 use Rattle.clvm_spec.specs.declared.costs.TheConstants.{DIFFERENCE_COST}
 use Rattle.clvm_spec.specs.Operators.{new_number}
 use Rattle.clvm_tree.specs.Operators.{trees_at}
-use Rattle.clvm_eval.proofs.QuickLaws.{two_operands, quickly_same, difference_is}
+use Rattle.clvm_tree.proofs.OperandLists.{two_operands}
+use Rattle.clvm_eval.proofs.QuickLaws.{quickly_same, difference_is}
 use Rattle.clvm_eval.proofs.quick.difference_of.Goals as goal
 
 pub returns : goal.returns

@@ -2,7 +2,8 @@ use Rattle.std.proofs.Common.{refl}
 use Rattle.std.proofs.lemmas.Int.{to_z-of_z}
 use Rattle.clvm_spec.specs.declared.costs.TheConstants.{GREATER_COST}
 use Rattle.clvm_tree.specs.Operators.{trees_at}
-use Rattle.clvm_eval.proofs.QuickLaws.{two_operands, quickly_same, greater_is}
+use Rattle.clvm_tree.proofs.OperandLists.{two_operands}
+use Rattle.clvm_eval.proofs.QuickLaws.{quickly_same, greater_is}
 use Rattle.clvm_eval.proofs.quick.greater_flag.Goals as goal
 
 pub returns : goal.returns

@@ -1,7 +1,7 @@
 use Rattle.std.proofs.Common.{ap}
 use Rattle.clvm_spec.specs.Operators.{atom_at}
 use Rattle.clvm_ops.proofs.Answered.{handed}
-use Rattle.clvm_ops.proofs.NodeLists.{two_operands}
+use Rattle.clvm_tree.proofs.OperandLists.{two_operands}
 use Rattle.clvm_ops.proofs.ReadLaws.{first_bad, second_bad}
 use Rattle.clvm_ops.proofs.operands.two_atoms.Goals as goal
 

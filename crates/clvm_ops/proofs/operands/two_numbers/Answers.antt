@@ -1,6 +1,6 @@
 use Rattle.clvm_spec.specs.Operators.{number_at}
 use Rattle.clvm_ops.proofs.Answered.{handed}
-use Rattle.clvm_ops.proofs.NodeLists.{two_operands}
+use Rattle.clvm_tree.proofs.OperandLists.{two_operands}
 use Rattle.clvm_ops.proofs.ReadLaws.{first_bad, second_bad, number_read}
 use Rattle.clvm_ops.proofs.operands.two_numbers.Goals as goal
 

@@ -1,5 +1,5 @@
 use Rattle.clvm_ops.proofs.Answered.{answers_same}
-use Rattle.clvm_ops.proofs.NodeLists.{three_operands}
+use Rattle.clvm_tree.proofs.OperandLists.{three_operands}
 use Rattle.clvm_ops.proofs.TreeLaws.{choice_is}
 use Rattle.clvm_ops.proofs.application.Application.choice.Goals as goal
 

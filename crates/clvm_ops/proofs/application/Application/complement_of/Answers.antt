@@ -3,7 +3,7 @@ use Rattle.std.specs.Int.{w128}
 use Rattle.std.proofs.lemmas.Int.{to_z-of_z}
 use Rattle.clvm_spec.specs.Operators.{complement_of}
 use Rattle.clvm_ops.proofs.Answered.{faulty, answers_same}
-use Rattle.clvm_ops.proofs.NodeLists.{one_operand}
+use Rattle.clvm_tree.proofs.OperandLists.{one_operand}
 use Rattle.clvm_ops.proofs.NumberOps.{complement_of_is}
 use Rattle.clvm_ops.proofs.application.Application.complement_of.Goals as goal
 

@@ -5,7 +5,7 @@ use Rattle.clvm_spec.specs.declared.costs.TheConstants.{MEASURED_BYTE_COST}
 use Rattle.clvm_spec.specs.Operators.{length_of, new_number}
 use Rattle.clvm_ops.proofs.Answered.{faulty, answers_same}
 use Rattle.clvm_ops.proofs.AtomLaws.{length_of_is}
-use Rattle.clvm_ops.proofs.NodeLists.{one_operand}
+use Rattle.clvm_tree.proofs.OperandLists.{one_operand}
 use Rattle.clvm_ops.proofs.application.Application.length_of.Goals as goal
 
 pub returns-in_err-size : goal.returns-in_err-size

@@ -2,7 +2,7 @@ use Rattle.std.proofs.Common.{ap}
 use Rattle.clvm_spec.specs.Tree.{Pair}
 use Rattle.clvm_spec.specs.Operators.{new_pair}
 use Rattle.clvm_ops.proofs.Answered.{spent, answers_same}
-use Rattle.clvm_ops.proofs.NodeLists.{two_operands}
+use Rattle.clvm_tree.proofs.OperandLists.{two_operands}
 use Rattle.clvm_ops.proofs.application.Application.new_pair.Goals as goal
 
 pub returns-in_err-charge : goal.returns-in_err-charge

@@ -1,5 +1,5 @@
 use Rattle.clvm_ops.proofs.Answered.{answers_same}
-use Rattle.clvm_ops.proofs.NodeLists.{one_operand}
+use Rattle.clvm_tree.proofs.OperandLists.{one_operand}
 use Rattle.clvm_ops.proofs.TreeLaws.{pair_flag_is}
 use Rattle.clvm_ops.proofs.application.Application.pair_flag.Goals as goal
 

@@ -4,7 +4,7 @@ use Rattle.clvm_spec.specs.Outcomes.{Enough}
 use Rattle.clvm_tree.specs.declared.operators.OpFault.TheVariants as fault
 use Rattle.clvm_ops.proofs.Answered.{answers_same, refused_at_once}
 use Rattle.clvm_ops.proofs.PartLaws.{part_of_few, part_of_many}
-use Rattle.clvm_ops.proofs.NodeLists.{two_operands, three_operands}
+use Rattle.clvm_tree.proofs.OperandLists.{two_operands, three_operands}
 use Rattle.clvm_ops.proofs.application.Application.part_of.Goals as goal
 
 pub returns-in-len2 : goal.returns-in-len2

@@ -1,7 +1,7 @@
 use Rattle.std.proofs.Common.{◌∷◌, [], ap, ◌∙◌}
 use Rattle.clvm_spec.specs.Operators.{rest_of}
 use Rattle.clvm_ops.proofs.Answered.{answers_same}
-use Rattle.clvm_ops.proofs.NodeLists.{one_operand}
+use Rattle.clvm_tree.proofs.OperandLists.{one_operand}
 use Rattle.clvm_ops.proofs.application.Application.rest_of.Goals as goal
 
 pub returns-in-Parts : goal.returns-in-Parts
