@@ -13,3 +13,6 @@ pub use found::{FactList, Facts};
 pub use item::Item;
 pub use judge_spec::{Class, Limits};
 pub use run::facts;
+
+#[cfg(test)]
+mod tests;
