@@ -135,7 +135,7 @@ uneven-is list =
     position-map (has_uneven (map deeds_of list)) deeds_of list ∙ (λ i. position (λ acts. uneven-of list acts i) list)
 
 lacks-is : (list : List Acts) → lacks_in (map deeds_of list) ≡ lacks_reserved_fee list
-lacks-is list = (λ i. when (nat_lt (spent-is list i) (claims-is list i)) (length-map deeds_of list i))
+lacks-is list = (λ i. when (nat_lt (spent-is list i) (claims-is list i)) (length-map list deeds_of i))
 
 broken-is : (list : List Acts) → broken_in (map deeds_of list) ≡ first_broken list
 broken-is list = (λ i.

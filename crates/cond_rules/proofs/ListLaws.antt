@@ -36,7 +36,7 @@ place-map test f [] = refl
 place-map test f (x ∷ xs) = ap (λ n. cond (not (test (f x))) (1 + n) 0) (place-map test f xs)
 
 pub position-map : {A B : Type 0} (test : B → Bool) (f : A → B) (xs : List A) → position test (map f xs) ≡ position (λ x. test (f x)) xs
-position-map test f xs = (λ i. cond (nat_lt (place-map test f xs i) (length-map f xs i)) (Some (place-map test f xs i)) None)
+position-map test f xs = (λ i. cond (nat_lt (place-map test f xs i) (length-map xs f i)) (Some (place-map test f xs i)) None)
 
 -- ---- sums of two
 

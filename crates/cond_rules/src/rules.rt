@@ -132,14 +132,16 @@ fn is_uneven(list: &DeedList, message: &Message) -> bool
     times_sent(list, message) != times_received(list, message)
 }
 
+fn is_any_uneven(list: &DeedList, messages: &[Message]) -> bool
+    ensures { result ≡ list_any (is_uneven_in list.now) messages.now }
+{
+    messages.iter().any(|message| is_uneven(list, message))
+}
+
 fn has_uneven(list: &DeedList, deeds: &Deeds) -> bool
     ensures { result ≡ has_uneven list.now deeds.now }
 {
-    deeds.sent().iter().any(|message| is_uneven(list, message))
-        || deeds
-            .received()
-            .iter()
-            .any(|message| is_uneven(list, message))
+    is_any_uneven(list, deeds.sent()) || is_any_uneven(list, deeds.received())
 }
 
 // The first spend that asserts an announcement which isn't made.

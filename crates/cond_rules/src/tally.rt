@@ -1,4 +1,4 @@
-ghost use Rattle.std.specs.Prelude.{◌≡◌, ◌<◌, [], OnOk, OnErr};
+ghost use Rattle.std.specs.Prelude.{◌≡◌, ◌+◌, ◌<◌, [], OnOk, OnErr};
 ghost use Rattle.cond_rules.specs.Tallies.{IsTallyOf, Adds, number_of_spends, IsFirstBroken};
 
 use crate::OutOfMemory;
@@ -17,7 +17,8 @@ pub struct Tally {
 impl Tally {
     /// No spend.
     pub fn new(alloc: Global) -> Tally
-        ensures { IsTallyOf result [] }
+        ensures is { IsTallyOf result [] }
+        ensures count { number_of_spends result ≡ 0 }
     {
         Tally {
             spends: DeedList::new(alloc),
@@ -36,6 +37,7 @@ impl Tally {
         requires next { spend ≡ number_of_spends self.old }
         requires few { spend < 4_294_967_295 }
         ensures ok { OnOk result (Adds self.old coin.now conditions.now self.new) }
+        ensures count { OnOk result (number_of_spends self.new ≡ spend + 1) }
         ensures out_of_memory { OnErr result (self.new ≡ self.old) }
     {
         let deeds = Deeds::new(alloc, coin, conditions.as_slice())?;
