@@ -42,9 +42,7 @@ fn is_announced_by_puzzle(list: &DeedList, hash: &Hash32) -> bool
 fn is_spent(list: &DeedList, id: &Hash32) -> bool
     ensures { result ≡ list_any (λ deeds. is_same_id (coin_id deeds.coin) id.now) list.now }
 {
-    list.as_slice()
-        .iter()
-        .any(|deeds| deeds.coin().id() == *id)
+    list.as_slice().iter().any(|deeds| deeds.coin().id() == *id)
 }
 
 // Whether the list spends a coin of this puzzle hash.

@@ -121,7 +121,11 @@ fn first_broken_rules(rt: HostRuntime) -> Result<(), Fail> {
         (&[], &[], None),
         (&[AssertAnnounced(2)], &[Announce], None),
         (&[AssertAnnounced(1)], &[Announce], Some((16, 0))),
-        (&[Announce], &[AssertAnnounced(1), AssertAnnounced(9)], Some((16, 1))),
+        (
+            &[Announce],
+            &[AssertAnnounced(1), AssertAnnounced(9)],
+            Some((16, 1)),
+        ),
         (&[AssertAnnouncedAsPuzzle(2)], &[AnnounceAsPuzzle], None),
         (&[Announce], &[AssertAnnouncedAsPuzzle(1)], Some((16, 1))),
         (&[AssertSpend(2)], &[AssertSpend(1), AssertSpend(2)], None),
