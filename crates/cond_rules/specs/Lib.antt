@@ -1,0 +1,4 @@
+pub mod DeedRules
+pub mod Deeds
+pub mod FirstBroken
+pub mod Tallies

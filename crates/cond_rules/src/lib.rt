@@ -1,0 +1,15 @@
+//! Tallies of spends: what they make and ask of each other, and the first rule on these that they break.
+#![tactic(auto)]
+
+mod deeds;
+mod given;
+mod message;
+mod rules;
+mod sums;
+mod tally;
+
+pub use coin_facts::OutOfMemory;
+pub use tally::Tally;
+
+#[cfg(test)]
+mod tests;
