@@ -40,11 +40,13 @@ fn clashes_with(one: &Facts, class: Class, item: &Item) -> bool
 {
     let spend = one.spend();
     let id = spend.coin.id();
-    item.fit()
-        .as_slice()
-        .iter()
-        .zip(item.classes())
-        .any(|(other, other_class)| clashes(id, spend, class, other, *other_class))
+    item.fit().as_slice().iter().zip(item.classes()).any(|(other, other_class)| clashes(
+        id,
+        spend,
+        class,
+        other,
+        *other_class,
+    ))
 }
 
 fn do_conflict(new: &Item, item: &Item) -> bool

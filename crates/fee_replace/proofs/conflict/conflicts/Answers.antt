@@ -28,14 +28,16 @@ loop-place-preserved c =
     ∙ ap (λ b. conflicts new before ++ place_if b (0 + length before)) (sym c.do_conflict.ensures)
     ∙ ap (λ n. conflicts new before ++ place_if c.do_conflict.result n) place_at in
     elim c.if-do_conflict.branch [
-      then-do_conflict w ↦
-          let room : vec_capacity c.if-do_conflict.into ≡ vec_capacity w.push_place.new.into = ap (λ v. vec_capacity v) w.into-is in
-          (listed-more c.do_conflict.result k c.loop-place.into.items (conflicts new before) (conflicts new (take (k + 1) items)) c.if-do_conflict.into.items
-              w.if-do_conflict.true (ap (λ v. v.items) w.into-is ∙ w.push_place.ensures.value) c.loop-place.invariant.0 grown,
-          omega (arith, room, w.push_place.ensures.room, c.loop-place.invariant.1))
-    | else-do_conflict w ↦
-          let room : vec_capacity c.if-do_conflict.into ≡ vec_capacity c.loop-place.into = ap (λ v. vec_capacity v) w.into-is in
-          (listed-same c.do_conflict.result k c.loop-place.into.items (conflicts new before) (conflicts new (take (k + 1) items)) c.if-do_conflict.into.items
-              w.if-do_conflict.false (ap (λ v. v.items) w.into-is) c.loop-place.invariant.0 grown,
-          omega (arith, room, c.loop-place.invariant.1))
+      | then-do_conflict w ↦
+          let room : vec_capacity c.if-do_conflict.into ≡ vec_capacity w.push_place.new.into = ap (λ v. vec_capacity v) w.into-is in (
+            listed-more c.do_conflict.result k c.loop-place.into.items (conflicts new before) (conflicts new (take (k + 1) items)) c.if-do_conflict.into.items
+                w.if-do_conflict.true (ap (λ v. v.items) w.into-is ∙ w.push_place.ensures.value) c.loop-place.invariant.0 grown,
+            omega (arith, room, w.push_place.ensures.room, c.loop-place.invariant.1),
+          )
+      | else-do_conflict w ↦
+          let room : vec_capacity c.if-do_conflict.into ≡ vec_capacity c.loop-place.into = ap (λ v. vec_capacity v) w.into-is in (
+            listed-same c.do_conflict.result k c.loop-place.into.items (conflicts new before) (conflicts new (take (k + 1) items)) c.if-do_conflict.into.items
+                w.if-do_conflict.false (ap (λ v. v.items) w.into-is) c.loop-place.invariant.0 grown,
+            omega (arith, room, c.loop-place.invariant.1),
+          )
     ]
