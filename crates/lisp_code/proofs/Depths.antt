@@ -19,7 +19,7 @@ code_within source zero = expression_code source (λ e names. looping)
 code_within source (suc depth) = expression_code source (code_within source depth)
 
 abbrev pub function_code : Module → ℕ → Definition → Tree
-function_code source depth = definition_code (code_within source depth)
+function_code source depth = definition_code source (code_within source depth)
 
 abbrev pub table_code : Module → ℕ → Tree
 table_code source depth = list_tree (map (function_code source depth) source.functions)

@@ -2,22 +2,22 @@
 use Rattle.std.proofs.Common.{◌≡◌, ℕ, zero, suc, ◌≤◌, List, [], ◌∷◌, map, length, refl, sym, ◌∙◌, subst, arith}
 use Rattle.clvm_spec.specs.Tree.{Tree, Pair, nil, list_tree}
 use Rattle.clvm_spec.specs.Spelling.{spelling}
-use Rattle.lisp_spec.specs.Forms.{Form}
 use Rattle.lisp_spec.specs.Modules.{Module, Definition}
 use Rattle.clvm_spec.specs.Currying.{quote_of}
 use Rattle.lisp_spec.specs.Agreement.{Agrees, FailsAlike}
-use Rattle.lisp_spec.proofs.FormCycleLaws.{HasNoCycle}
-use Rattle.lisp_spec.proofs.FormWeights as forms
-use Rattle.lisp_spec.proofs.FormsWeigh.{bound_is_that_of_forms, forms_have_no_cycle}
+use Rattle.lisp_spec.specs.Expressions.{Expression}
+use Rattle.lisp_spec.specs.Scopes.{body_of}
+use Rattle.lisp_spec.specs.CycleLaws.{HasNoCycle}
+use Rattle.lisp_spec.specs.ExpressionWeights.{module_bound}
 use Rattle.lisp_code.specs.Names.{Names, function_names}
 use Rattle.lisp_code.specs.Pieces.{operator_code, pair_code, path_code}
-use Rattle.lisp_code.specs.Code.{Codes, expression_code, definition_code, whole_code}
+use Rattle.lisp_code.specs.Code.{Codes, body_code, expression_code, definition_code, whole_code}
 use Rattle.lisp_code.specs.CodeLaws.{ModulesHaveCode, WorkEnds}
 use Rattle.lisp_code.proofs.Depths.{code_within, function_code, module_code, IsSettled}
 use Rattle.lisp_code.proofs.Eventually.{Eventually, eventually_same, eventually_two}
 use Rattle.lisp_code.proofs.Making.{marked, Making}
 use Rattle.lisp_code.proofs.Settling.{each_settles}
-use Rattle.lisp_code.proofs.Limits.{limit_is_its_step}
+use Rattle.lisp_code.proofs.Limits.{body_limit, limit_is_its_step}
 use Rattle.lisp_code.proofs.Agreed.{code_agrees, code_fails_alike}
 use Rattle.lisp_code.proofs.Bounds.{module_fits}
 
@@ -25,11 +25,11 @@ module _ (it : Making) (ends : HasNoCycle it.source) where
   pub last_made : Codes
   last_made e names = (each_settles it ends e names).0
 
-  pub last_limits : (e : Form) (names : Names) → Eventually (λ b. it.made b e names) (last_made e names)
+  pub last_limits : (e : Expression) (names : Names) → Eventually (λ b. it.made b e names) (last_made e names)
   unfolding last_made
   last_limits e names = (each_settles it ends e names).1
 
-  pub last_step : (e : Form) (names : Names) → last_made e names ≡ expression_code it.source (marked it.mark last_made) e names
+  pub last_step : (e : Expression) (names : Names) → last_made e names ≡ expression_code it.source (marked it.mark last_made) e names
   last_step e names = limit_is_its_step it last_made last_limits e names
 
 -- ---- the code
@@ -37,35 +37,38 @@ module _ (it : Making) (ends : HasNoCycle it.source) where
 abbrev codes_of : Module → Making
 codes_of source = record { source = source; mark = λ code. code; made = code_within source; step = λ b e names. refl }
 
-module _ (source : Module) (code : Codes) (limits : (e : Form) (names : Names) → Eventually (λ b. code_within source b e names) (code e names)) where
-  functions_limit : (fs : List Definition) → Eventually (λ b. list_tree (map (function_code source b) fs)) (list_tree (map (definition_code code) fs))
+module _ (source : Module) (code : Codes) (limits : (e : Expression) (names : Names) → Eventually (λ b. code_within source b e names) (code e names)) where
+  function_limit : (f : Definition) → Eventually (λ b. function_code source b f) (definition_code source code f)
+  function_limit f = body_limit (code_within source) code limits (body_of source f.params f.body) (function_names f.params)
+
+  functions_limit : (fs : List Definition) → Eventually (λ b. list_tree (map (function_code source b) fs)) (list_tree (map (definition_code source code) fs))
   functions_limit [] = eventually_same nil
   functions_limit (f ∷ fs) =
-      eventually_two Pair (λ b. function_code source b f) (λ b. list_tree (map (function_code source b) fs)) (definition_code code f) (list_tree (map (definition_code code) fs)) (limits f.body (function_names f.params)) (functions_limit fs)
+      eventually_two Pair (λ b. function_code source b f) (λ b. list_tree (map (function_code source b) fs)) (definition_code source code f) (list_tree (map (definition_code source code) fs)) (function_limit f) (functions_limit fs)
 
   module_limit : Eventually (module_code source) (whole_code source code)
   unfolding module_code
   module_limit =
       let whole = λ (body table : Tree). operator_code 2 (quote_of body ∷ pair_code (quote_of table) (path_code []) ∷ []) in
-      eventually_two whole (λ b. code_within source b source.body (function_names source.params)) (λ b. list_tree (map (function_code source b) source.functions))
-      (code source.body (function_names source.params)) (list_tree (map (definition_code code) source.functions)) (limits source.body (function_names source.params)) (functions_limit source.functions)
+      let read = body_of source source.params source.body in
+      let names = function_names source.params in
+      eventually_two whole (λ b. body_code (code_within source b) read names) (λ b. list_tree (map (function_code source b) source.functions))
+      (body_code code read names) (list_tree (map (definition_code source code) source.functions)) (body_limit (code_within source) code limits read names) (functions_limit source.functions)
 
 settled_code : (source : Module) (code : Tree) → Eventually (module_code source) code → (depth : ℕ) × IsSettled source depth × (module_code source depth ≡ code)
 unfolding Eventually
 settled_code source code s = (s.0, λ more le. s.1 more le ∙ sym (s.1 s.0 (omega arith)), s.1 s.0 (omega arith))
 
 pub modules_have_code : ModulesHaveCode
-modules_have_code source bound no_cycle =
-    let ends = forms_have_no_cycle source bound no_cycle in
+modules_have_code source bound ends =
     let code = last_made (codes_of source) ends in
     let at = settled_code source (whole_code source code) (module_limit source code (last_limits (codes_of source) ends)) in
     record {
       code = code;
       are_codes = last_step (codes_of source) ends;
-      agrees = subst (Agrees source) at.2 (code_agrees source at.0 at.1 bound);
-      fails = subst (FailsAlike source) at.2 (code_fails_alike source at.0 at.1 bound);
-      within = subst (λ n. length (spelling (whole_code source code)) ≤ n) (bound_is_that_of_forms source bound)
-          (subst (λ code. length (spelling code) ≤ forms.module_bound source) at.2 (module_fits source ends at.0));
+      agrees = subst (Agrees source) at.2 (code_agrees source at.0 at.1);
+      fails = subst (FailsAlike source) at.2 (code_fails_alike source at.0 at.1);
+      within = subst (λ code. length (spelling code) ≤ module_bound source) at.2 (module_fits source ends bound at.0);
     }
 
 -- ---- the work
@@ -78,4 +81,4 @@ abbrev measured_of : Module → Making
 measured_of source = record { source = source; mark = Pair nil; made = measured_within source; step = λ b e names. refl }
 
 pub work_ends : WorkEnds
-work_ends source bound no_cycle = let ends = forms_have_no_cycle source bound no_cycle in (last_made (measured_of source) ends, last_step (measured_of source) ends)
+work_ends source ends = (last_made (measured_of source) ends, last_step (measured_of source) ends)

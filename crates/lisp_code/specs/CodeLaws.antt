@@ -3,8 +3,8 @@
 use Rattle.std.specs.Prelude.{◌≡◌, ◌≤◌, length}
 use Rattle.clvm_spec.specs.Tree.{Pair, nil}
 use Rattle.clvm_spec.specs.Spelling.{spelling}
-use Rattle.lisp_spec.specs.Forms.{Form}
 use Rattle.lisp_spec.specs.Modules.{Module}
+use Rattle.lisp_spec.specs.Expressions.{Expression}
 use Rattle.lisp_spec.specs.Agreement.{Agrees, FailsAlike}
 use Rattle.lisp_spec.specs.ModuleLaws.{AreBound}
 use Rattle.lisp_spec.specs.CycleLaws.{HasNoCycle}
@@ -14,7 +14,7 @@ use Rattle.lisp_code.specs.Code.{Codes, expression_code, whole_code}
 
 -- These are codes of all expressions, with whatever names: each is made of those that it goes on with.
 abbrev pub AreCodes : Module → Codes → Type 0
-AreCodes source code = (e : Form) (names : Names) → code e names ≡ expression_code source code e names
+AreCodes source code = (e : Expression) (names : Names) → code e names ≡ expression_code source code e names
 
 -- codes whose whole agrees with the module, fails where it fails, and has a spelling no longer than the module's bound
 pub record HasCode (source : Module) : Type 0 where
@@ -32,8 +32,8 @@ ModulesHaveCode = (source : Module) → AreBound source → HasNoCycle source �
 -- expression has more nodes than all those together of what its code is made of: a measure of the work. Only `qq` and
 -- `unquote` add none, and have the tree of their operand.
 abbrev pub AreMeasured : Module → Codes → Type 0
-AreMeasured source measured = (e : Form) (names : Names) → measured e names ≡ expression_code source (λ e names. Pair nil (measured e names)) e names
+AreMeasured source measured = (e : Expression) (names : Names) → measured e names ≡ expression_code source (λ e names. Pair nil (measured e names)) e names
 
--- Where each body is an expression and no inline reaches itself, that work ends.
+-- Where no inline reaches itself, that work ends.
 abbrev pub WorkEnds : Type 0
-WorkEnds = (source : Module) → AreBound source → HasNoCycle source → (measured : Codes) × AreMeasured source measured
+WorkEnds = (source : Module) → HasNoCycle source → (measured : Codes) × AreMeasured source measured

@@ -8,7 +8,7 @@ pub fn modules_have_code()
     ensures { ModulesHaveCode }
 {}
 
-/// There the work to make it ends.
+/// Where no inline reaches itself, the work to make it ends.
 pub fn work_ends()
     ensures { WorkEnds }
 {}

@@ -8,7 +8,7 @@ use Rattle.lisp_spec.specs.Parameters.{Side, ToFirst}
 use Rattle.clvm_spec.specs.Currying.{quote_of}
 use Rattle.lisp_code.specs.Pieces.{operator_code, path_code, pair_code, list_code, if_code, list_path}
 use Rattle.lisp_code.proofs.Lengths.{size, size_pair}
-use Rattle.lisp_compile.specs.Jobs.{Coding, Job, Call, Stack, pushed, step_code, part_code, called, done, all_done, room, rooms, left, lefts}
+use Rattle.lisp_compile.specs.Jobs.{Coding, Job, Call, Stack, called, done, all_done, room, rooms, left, lefts}
 
 -- ---- jobs at the top
 

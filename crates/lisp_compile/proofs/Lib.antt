@@ -3,4 +3,3 @@ pub mod JobLaws
 pub mod CodingLaws
 pub mod NameLookups
 pub mod TemplateJobs
-pub mod PlainLaws

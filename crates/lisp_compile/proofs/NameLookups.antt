@@ -1,102 +1,69 @@
--- What a name stands for, by the path of the parameter of that name.
-use Rattle.std.proofs.Common.{◌≡◌, ℕ, Bool, true, false, cond, List, [], ◌∷◌, ◌++◌, map, Some, None, Option, option_map, is_some, find, bytes_eq, codes, refl, sym, ap, ◌∙◌}
+-- What a name stands for, by the path of the parameter of that name, and the codes of what stands at a path.
+use Rattle.std.proofs.Common.{◌≡◌, ℕ, Bool, true, false, cond, List, [], ◌∷◌, ◌++◌, Some, None, Option, option_map, find, bytes_eq, refl, ap, ◌∙◌}
 use Rattle.clvm_spec.specs.Tree.{Tree}
-use Rattle.clvm_spec.specs.OperatorTable.{operator_named}
-use Rattle.lisp_spec.specs.Forms.{Form, Place}
-use Rattle.lisp_spec.specs.Forms as form
-use Rattle.lisp_read.specs.FormLists.{form_elements, form_list, headed}
-use Rattle.lisp_spec.specs.declared.head.Head.TheVariants.{Lists, Operates}
-use Rattle.lisp_spec.specs.Heads.{head_of}
-use Rattle.lisp_spec.specs.Parameters.{Side, ToFirst, ToRest, Parameter, parameters, path_of}
-use Rattle.lisp_spec.specs.OperandForms.{step_name, part_of_operand, expression_at}
-use Rattle.lisp_code.specs.Names.{Names, Nowhere, AtPath, Named, PathTo, NoPath, ExpressionOf, NoName, named, paths_bound, function_names, deferring, deferred, inline_names}
-use Rattle.lisp_code.specs.Pieces.{operator_code, list_code}
-use Rattle.lisp_compile.specs.Scopes.{elements_of}
-use Rattle.lisp_compile.specs.Jobs.{Coding, codes_of, operands_of, step_code, part_code}
-use Rattle.lisp_compile.proofs.CodingLaws.{code_lists, code_operates}
+use Rattle.lisp_spec.specs.Forms.{Form}
+use Rattle.lisp_spec.specs.Parameters.{Side, Parameter, parameters, path_of}
+use Rattle.lisp_spec.specs.Expressions.{Expression, Operation, Operands, NoMore, Operand}
+use Rattle.lisp_spec.specs.Environments.{Binding, ToFound, ToNoStep, ToExpression, ToNothing, binding_of, all_bound, step_code, part_of, operand_at, standing, expressions_bound, inline_environment}
+use Rattle.lisp_code.specs.Names.{Names, function_names}
+use Rattle.lisp_code.specs.Pieces.{operator_code}
+use Rattle.lisp_compile.specs.Jobs.{Coding, part_code}
+use Rattle.lisp_compile.proofs.CodingLaws.{code_operation}
 
-abbrev pub named_by_path : Option (List Side) → Named
-named_by_path None = NoName
-named_by_path (Some path) = PathTo path
+abbrev pub bound_by_path : Option (List Side) → Binding (List Side)
+bound_by_path None = ToNothing
+bound_by_path (Some path) = ToFound path
 
-abbrev pub named_by_form : Names → Option Form → Named
-named_by_form there None = NoPath
-named_by_form there (Some e) = ExpressionOf e there
+abbrev pub bound_by_operand : Names → Option Expression → Binding (List Side)
+bound_by_operand there None = ToNoStep
+bound_by_operand there (Some e) = ToExpression e there
 
-abbrev pub named_by_operands : Place → List Form → Names → Option (List Side) → Named
-named_by_operands place operands there None = NoName
-named_by_operands place operands there (Some path) = named_by_form there (expression_at place path operands)
+abbrev pub bound_by_operands : Operands → Names → Option (List Side) → Binding (List Side)
+bound_by_operands operands there None = ToNothing
+bound_by_operands operands there (Some path) = bound_by_operand there (operand_at path operands)
 
 abbrev path_in_all : List ℕ → List Parameter → Option (List Side)
 path_in_all name ps = option_map (λ p. p.path) (find (λ p. bytes_eq p.name name) ps)
 
-one_path : (b : Bool) (p : Parameter) (more : Option Parameter) (rest : Named) → rest ≡ named_by_path (option_map (λ p. p.path) more) →
-    cond b (PathTo p.path) rest ≡ named_by_path (option_map (λ p. p.path) (cond b (Some p) more))
+one_path : (b : Bool) (p : Parameter) (more : Option Parameter) (rest : Binding (List Side)) → rest ≡ bound_by_path (option_map (λ p. p.path) more) →
+    cond b (ToFound p.path) rest ≡ bound_by_path (option_map (λ p. p.path) (cond b (Some p) more))
 one_path true p more rest e = refl
 one_path false p more rest e = e
 
-named_paths : (name : List ℕ) (ps : List Parameter) → named name (paths_bound ps) ≡ named_by_path (path_in_all name ps)
-named_paths name [] = refl
-named_paths name (p ∷ ps) = one_path (bytes_eq p.name name) p (find (λ p. bytes_eq p.name name) ps) (named name (paths_bound ps)) (named_paths name ps)
+bound_paths : (name : List ℕ) (ps : List Parameter) → binding_of name (all_bound Some ps) ≡ bound_by_path (path_in_all name ps)
+bound_paths name [] = refl
+bound_paths name (p ∷ ps) = one_path (bytes_eq p.name name) p (find (λ p. bytes_eq p.name name) ps) (binding_of name (all_bound Some ps)) (bound_paths name ps)
 
-pub named_function : (name : List ℕ) (params : Form) → named name (function_names params) ≡ named_by_path (path_of name params)
-named_function name params = named_paths name (parameters params)
+pub bound_function : (name : List ℕ) (params : Form) → binding_of name (function_names params) ≡ bound_by_path (path_of name params)
+bound_function name params = bound_paths name (parameters params)
 
-module _ (place : Place) (operands : List Form) (there : Names) where
-  named_deferring : (name other : List ℕ) (e : Option Form) (others : Names) → named name (deferring other e there others) ≡ cond (bytes_eq other name) (named_by_form there e) (named name others)
-  named_deferring name other None others = refl
-  named_deferring name other (Some e) others = refl
+module _ (operands : Operands) (there : Names) where
+  bound_standing : (name other : List ℕ) (e : Option Expression) (others : Names) → binding_of name (standing other e there others) ≡ cond (bytes_eq other name) (bound_by_operand there e) (binding_of name others)
+  bound_standing name other None others = refl
+  bound_standing name other (Some e) others = refl
 
-  one_deferred : (b : Bool) (p : Parameter) (more : Option Parameter) (rest : Named) → rest ≡ named_by_operands place operands there (option_map (λ p. p.path) more) →
-      cond b (named_by_form there (expression_at place p.path operands)) rest ≡ named_by_operands place operands there (option_map (λ p. p.path) (cond b (Some p) more))
-  one_deferred true p more rest e = refl
-  one_deferred false p more rest e = e
+  one_standing : (b : Bool) (p : Parameter) (more : Option Parameter) (rest : Binding (List Side)) → rest ≡ bound_by_operands operands there (option_map (λ p. p.path) more) →
+      cond b (bound_by_operand there (operand_at p.path operands)) rest ≡ bound_by_operands operands there (option_map (λ p. p.path) (cond b (Some p) more))
+  one_standing true p more rest e = refl
+  one_standing false p more rest e = e
 
-  named_deferred : (name : List ℕ) (ps : List Parameter) → named name (deferred place ps operands there) ≡ named_by_operands place operands there (path_in_all name ps)
-  named_deferred name [] = refl
-  named_deferred name (p ∷ ps) =
-      named_deferring name p.name (expression_at place p.path operands) (deferred place ps operands there)
-      ∙ one_deferred (bytes_eq p.name name) p (find (λ p. bytes_eq p.name name) ps) (named name (deferred place ps operands there)) (named_deferred name ps)
+  all_standing : (name : List ℕ) (ps : List Parameter) → binding_of name (expressions_bound ps operands there) ≡ bound_by_operands operands there (path_in_all name ps)
+  all_standing name [] = refl
+  all_standing name (p ∷ ps) =
+      bound_standing name p.name (operand_at p.path operands) (expressions_bound ps operands there)
+      ∙ one_standing (bytes_eq p.name name) p (find (λ p. bytes_eq p.name name) ps) (binding_of name (expressions_bound ps operands there)) (all_standing name ps)
 
-  pub named_inline : (name : List ℕ) (params : Form) → named name (inline_names place params operands there) ≡ named_by_operands place operands there (path_of name params)
-  named_inline name params = named_deferred name (parameters params)
+  pub bound_inline : (name : List ℕ) (params : Form) → binding_of name (inline_environment params operands there) ≡ bound_by_operands operands there (path_of name params)
+  bound_inline name params = all_standing name (parameters params)
 
--- ---- the codes of what stands at a path
+-- ---- the codes of parts
+
+pub code_part : (it : Coding) (path : List Side) (e : Expression) (names : Names) → it.code (part_of path e) names ≡ part_code path (it.code e names)
+code_part it [] e names = refl
+code_part it (side ∷ path) e names =
+    code_part it path (Operation (step_code side) (Operand e NoMore)) names ∙ ap (part_code path) (code_operation it names (step_code side) (Operand e NoMore))
 
 -- Of a part the last step is outside.
-pub part-push : (place : Place) (path : List Side) (side : Side) (operand : Form) → part_of_operand place (path ++ side ∷ []) operand ≡ headed place (step_name side) (part_of_operand place path operand ∷ [])
-part-push place [] side operand = refl
-part-push place (s ∷ path) side operand = part-push place path side (headed place (step_name s) (operand ∷ []))
-
-steps_are : (side : Side) → head_of (step_name side) ≡ Operates (step_code side)
-unfolding head_of operator_named
-steps_are ToFirst = refl
-steps_are ToRest = refl
-
-lists_are : head_of (codes "list") ≡ Lists
-unfolding head_of
-lists_are = refl
-
-code_step : (it : Coding) (place : Place) (side : Side) (operand : Form) (names : Names) → it.code (headed place (step_name side) (operand ∷ [])) names ≡ operator_code (step_code side) (it.code operand names ∷ [])
-code_step it place side operand names = code_operates it place place (step_name side) (form_list place (operand ∷ [])) names (step_code side) (steps_are side) refl
-
-pub code_part : (it : Coding) (place : Place) (path : List Side) (operand : Form) (names : Names) → it.code (part_of_operand place path operand) names ≡ part_code path (it.code operand names)
-code_part it place [] operand names = refl
-code_part it place (side ∷ path) operand names =
-    code_part it place path (headed place (step_name side) (operand ∷ [])) names ∙ ap (part_code path) (code_step it place side operand names)
-
 pub part_code-push : (path : List Side) (side : Side) (tree : Tree) → part_code (path ++ side ∷ []) tree ≡ operator_code (step_code side) (part_code path tree ∷ [])
 part_code-push [] side tree = refl
 part_code-push (s ∷ path) side tree = part_code-push path side (operator_code (step_code s) (tree ∷ []))
-
-list_is_proper : (place : Place) (forms : List Form) → form_elements (form_list place forms) ≡ Some forms
-list_is_proper place [] = refl
-list_is_proper place (f ∷ forms) = ap (option_map (λ more. f ∷ more)) (list_is_proper place forms)
-
-list_elements : (place : Place) (forms : List Form) → elements_of (form_list place forms) ≡ forms
-list_elements place [] = refl
-list_elements place (f ∷ forms) = ap (λ more. f ∷ more) (list_elements place forms)
-
-pub code_list : (it : Coding) (place : Place) (forms : List Form) (names : Names) → it.code (headed place (codes "list") forms) names ≡ list_code (codes_of it names forms)
-code_list it place forms names =
-    code_lists it place place (codes "list") (form_list place forms) names lists_are (ap is_some (list_is_proper place forms)) ∙ ap (λ fs. list_code (codes_of it names fs)) (list_elements place forms)

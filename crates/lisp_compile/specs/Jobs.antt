@@ -1,41 +1,33 @@
 -- What is to be made, on trees: each job goes on with the trees that are made so far, the newest first. This project's own.
 use Rattle.std.specs.Prelude.{◌≡◌, ℕ, ◌+◌, ◌*◌, List, [], ◌∷◌, map, Option, Some, None}
-use Rattle.clvm_spec.specs.declared.op_codes.TheConstants.{APPLY, FIRST, REST}
+use Rattle.clvm_spec.specs.declared.op_codes.TheConstants.{APPLY}
 use Rattle.clvm_spec.specs.Tree.{Tree, Atom, Pair, list_tree}
-use Rattle.lisp_spec.specs.Forms.{Form}
 use Rattle.lisp_spec.specs.Modules.{Module}
-use Rattle.lisp_spec.specs.Parameters.{Side, ToFirst, ToRest}
-use Rattle.lisp_spec.specs.Quoted.{quoted_form}
+use Rattle.lisp_spec.specs.Parameters.{Side, ToFirst}
+use Rattle.lisp_spec.specs.Environments.{step_code}
+use Rattle.lisp_spec.specs.Expressions.{Expression, Operands, NoMore, Operand, Template}
 use Rattle.lisp_code.specs.Names.{Names}
 use Rattle.lisp_code.specs.Pieces.{operator_code, path_code, pair_code, list_code, if_code, list_path}
 use Rattle.lisp_code.specs.Code.{Codes, expression_code, template_code}
 use Rattle.lisp_code.proofs.Lengths.{size}
-use Rattle.lisp_compile.specs.Scopes.{elements_of}
 
 -- Trees of all expressions of a module, made like codes, but with a mark around each that an expression goes on with.
 pub record Coding : Type 0 where
   pub source : Module
   pub mark : Tree → Tree
   pub code : Codes
-  pub step : (e : Form) (names : Names) → code e names ≡ expression_code source (λ e names. mark (code e names)) e names
+  pub step : (e : Expression) (names : Names) → code e names ≡ expression_code source (λ e names. mark (code e names)) e names
 
 abbrev pub further : Coding → Codes
 further it e names = it.mark (it.code e names)
 
-abbrev pub codes_of : Coding → Names → List Form → List Tree
-codes_of it names forms = map (λ f. it.code f names) forms
+-- the codes of operands
+abbrev pub codes_of : Coding → Operands → Names → List Tree
+codes_of it NoMore names = []
+codes_of it (Operand first more) names = it.code first names ∷ codes_of it more names
 
--- the codes of the elements of a list
-abbrev pub operands_of : Coding → Form → Names → List Tree
-operands_of it list names = codes_of it names (elements_of list)
-
-abbrev pub template_of : Coding → Form → Names → Tree
+abbrev pub template_of : Coding → Template → Names → Tree
 template_of it template names = template_code it.source (further it) template names
-
--- the operator that takes a step
-abbrev pub step_code : Side → ℕ
-step_code ToFirst = FIRST
-step_code ToRest = REST
 
 -- what applies the steps to a value, the first step inside
 abbrev pub part_code : List Side → Tree → Tree
@@ -47,20 +39,16 @@ abbrev pub called : ℕ → Tree → Tree
 called k operands = operator_code APPLY (path_code (ToFirst ∷ list_path k) ∷ pair_code (path_code (ToFirst ∷ [])) operands ∷ [])
 
 pub data Job : Type 0 where
-  -- the code of an expression
-  Expression : Form → Names → Job
-  -- the code of a template
-  Template : Form → Names → Job
+  CodeOf : Expression → Names → Job
+  TemplateOf : Template → Names → Job
   -- the code of a template that is no `unquote`
-  Filled : Form → Names → Job
-  -- the codes of a list's elements, as a list
-  Operands : Form → Names → Job
-  -- the code that makes the list of the values of a list's elements
-  Listed : Form → Names → Job
+  PairOf : Template → Names → Job
+  -- the codes of operands, as a list
+  CodesOf : Operands → Names → Job
+  -- the code that makes the list of the operands' values
+  ListOf : Operands → Names → Job
   -- the code of a part of an operand
-  Part : List Side → Form → Names → Job
-  -- a form as a tree
-  Quoted : Form → Job
+  PartOf : List Side → Expression → Names → Job
   -- The newest trees are put together: a pair;
   Cons : Job
   -- an operator before the list of its operands;
@@ -95,13 +83,12 @@ with_three make (Some (a ∷ b ∷ c ∷ trees)) = Some (make a b c ∷ trees)
 with_three make other = None
 
 abbrev pub done : Coding → Job → Stack → Stack
-done it (Expression form names) trees = pushed (it.code form names) trees
-done it (Template form names) trees = pushed (template_of it form names) trees
-done it (Filled form names) trees = pushed (template_of it form names) trees
-done it (Operands list names) trees = pushed (list_tree (operands_of it list names)) trees
-done it (Listed list names) trees = pushed (list_code (operands_of it list names)) trees
-done it (Part sides form names) trees = pushed (part_code sides (it.code form names)) trees
-done it (Quoted form) trees = pushed (quoted_form form) trees
+done it (CodeOf e names) trees = pushed (it.code e names) trees
+done it (TemplateOf t names) trees = pushed (template_of it t names) trees
+done it (PairOf t names) trees = pushed (template_of it t names) trees
+done it (CodesOf operands names) trees = pushed (list_tree (codes_of it operands names)) trees
+done it (ListOf operands names) trees = pushed (list_code (codes_of it operands names)) trees
+done it (PartOf sides e names) trees = pushed (part_code sides (it.code e names)) trees
 done it Cons trees = with_two Pair trees
 done it (Operator code) trees = with_one (Pair (Atom (code ∷ []))) trees
 done it (OneOperand code) trees = with_one (λ a. operator_code code (a ∷ [])) trees
@@ -118,13 +105,12 @@ all_done it (job ∷ above) trees = done it job (all_done it above trees)
 
 -- how many of the newest trees a job takes
 abbrev pub taken_by : Job → ℕ
-taken_by (Expression form names) = 0
-taken_by (Template form names) = 0
-taken_by (Filled form names) = 0
-taken_by (Operands list names) = 0
-taken_by (Listed list names) = 0
-taken_by (Part sides form names) = 0
-taken_by (Quoted form) = 0
+taken_by (CodeOf e names) = 0
+taken_by (TemplateOf t names) = 0
+taken_by (PairOf t names) = 0
+taken_by (CodesOf operands names) = 0
+taken_by (ListOf operands names) = 0
+taken_by (PartOf sides e names) = 0
 taken_by Cons = 2
 taken_by (Operator code) = 1
 taken_by (OneOperand code) = 1
@@ -134,13 +120,12 @@ taken_by (Call k) = 1
 
 -- how much longer than what it is made of is the spelling of what a job makes
 abbrev pub room : Coding → Job → ℕ
-room it (Expression form names) = size (it.code form names)
-room it (Template form names) = size (template_of it form names)
-room it (Filled form names) = size (template_of it form names)
-room it (Operands list names) = size (list_tree (operands_of it list names))
-room it (Listed list names) = size (list_code (operands_of it list names))
-room it (Part sides form names) = size (part_code sides (it.code form names))
-room it (Quoted form) = size (quoted_form form)
+room it (CodeOf e names) = size (it.code e names)
+room it (TemplateOf t names) = size (template_of it t names)
+room it (PairOf t names) = size (template_of it t names)
+room it (CodesOf operands names) = size (list_tree (codes_of it operands names))
+room it (ListOf operands names) = size (list_code (codes_of it operands names))
+room it (PartOf sides e names) = size (part_code sides (it.code e names))
 room it Cons = 1
 room it (Operator code) = 1 + size (Atom (code ∷ []))
 room it (OneOperand code) = 3 + size (Atom (code ∷ []))
@@ -154,13 +139,12 @@ rooms it (job ∷ above) = room it job + rooms it above
 
 -- how many steps there are at most
 abbrev pub left : Coding → Job → ℕ
-left it (Expression form names) = 3 * room it (Expression form names) + 1
-left it (Template form names) = 3 * room it (Template form names) + 2
-left it (Filled form names) = 3 * room it (Filled form names) + 1
-left it (Operands list names) = 3 * room it (Operands list names)
-left it (Listed list names) = 3 * room it (Listed list names)
-left it (Part sides form names) = 3 * room it (Part sides form names) + 2
-left it (Quoted form) = 3 * room it (Quoted form)
+left it (CodeOf e names) = 3 * room it (CodeOf e names) + 1
+left it (TemplateOf t names) = 3 * room it (TemplateOf t names) + 2
+left it (PairOf t names) = 3 * room it (PairOf t names) + 1
+left it (CodesOf operands names) = 3 * room it (CodesOf operands names)
+left it (ListOf operands names) = 3 * room it (ListOf operands names)
+left it (PartOf sides e names) = 3 * room it (PartOf sides e names) + 2
 left it Cons = 1
 left it (Operator code) = 1
 left it (OneOperand code) = 1

@@ -1,7 +1,6 @@
 //! The compiler: the code of a module, made on stacks of tasks and nodes, so that no depth of a form is too deep.
 #![tactic(auto)]
 
-mod forms;
 mod parameters;
 mod path;
 mod pieces;

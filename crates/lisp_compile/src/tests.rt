@@ -1,11 +1,9 @@
 //! Pieces of code at known nodes. The bytes are worked out by hand.
 
-use crate::forms::{Plain, unwound};
 use crate::parameters::Side;
 use crate::path;
 use crate::pieces::{choice, fail, quote_atom};
 use clvm_tree::Trees;
-use lisp_read::{Form, forms};
 use std::test::Fail;
 
 #[test]
@@ -32,16 +30,5 @@ fn chooses_one_of_two(rt: HostRuntime) -> Result<(), Fail> {
         trees.write(alloc, code, 100)?.as_slice()
             == b"\xff\x02\xff\xff\x03\xff\x02\xff\xff\x01\xff\x08\x80\xff\xff\x01\xff\x01\x07\x80\xff\x01\x80".as_slice()
     );
-    Ok(())
-}
-
-#[test]
-fn sees_through_templates_of_one_expression(rt: HostRuntime) -> Result<(), Fail> {
-    let mut read = forms(rt.alloc(), b"(qq (unquote (qq (unquote X))))", 0)?;
-    let form = read.pop().expect(&rt, "a form");
-    let Plain::Expression(Form::Symbol(_, name)) = unwound(&form) else {
-        return Err(Fail::new("a name"));
-    };
-    assert!(rt; name.as_slice() == b"X".as_slice());
     Ok(())
 }

@@ -18,23 +18,16 @@ mod TextMeaningRows
 mod BuiltInRows
 mod FaultTextRows
 pub mod MeaningProofs
-pub mod FormEnvironments
-pub mod FormMeaning
-pub mod FormMeaningProofs
 pub mod ModuleProofs
 pub mod ConstantProofs
 pub mod ConstantsOfModules
 pub mod NamesFound
 pub mod Widening
-pub mod FormsAgree
+pub mod OperatorCodes
+pub mod Soundness
+pub mod Extending
 pub mod BoundProofs
 pub mod WalkProofs
 pub mod CycleProofs
-pub mod FormCycles
-pub mod FormWeights
-pub mod FormCycleLaws
-pub mod FormCycleProofs
-pub mod FormNestingProofs
-pub mod FormsWeigh
 pub mod NestingProofs
 pub mod InclusionProofs

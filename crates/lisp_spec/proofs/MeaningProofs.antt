@@ -13,7 +13,7 @@ use Rattle.lisp_spec.specs.Modules.{Module, Definition, definition_named, consta
 use Rattle.lisp_spec.specs.ModuleFaults.{Judged}
 use Rattle.lisp_spec.specs.Expressions.{Expression, Literal, Name, Choice, Listing, Operation, FunctionCall, InlineCall, Filled, Operands, NoMore, Operand, Template, Plain, Both, Unquoted}
 use Rattle.lisp_spec.specs.Scopes.{body_of}
-use Rattle.lisp_spec.specs.Environments.{Environment, Binding, ToTree, ToNoStep, ToExpression, ToNothing, binding_of, function_environment, inline_environment}
+use Rattle.lisp_spec.specs.Environments.{Environment, Binding, ToFound, ToNoStep, ToExpression, ToNothing, binding_of, function_environment, inline_environment}
 use Rattle.lisp_spec.specs.Meaning.{Meaning, Value, Failed, Wide, Out, Means, if_value, operator_meaning, run_meaning, all_counts, run_values, operate, constant_meaning, name_meaning, body_meaning, function_call, inline_call, expression_meaning, operands_meaning, template_meaning, meaning_within, meaning}
 use Rattle.lisp_spec.specs.MeaningLaws.{LargerCountKeepsValues, LargerCountKeepsFailures, LargerCountKeepsWide, CountsGiveTheSame}
 
@@ -58,14 +58,14 @@ module _ (n m : ℕ) (more : n ≤ m) where
   pub refines_operate : (code : ℕ) (values : List Tree) → Refines (operate n code values) (operate m code values)
   refines_operate code values = refines_cond (code == 2) _ _ _ _ (refines_run values) (same (operator_meaning (applied (code ∷ []) values)))
 
-module _ (source : Module) (n m : ℕ) (more : n ≤ m) (further further' : Means) (goes : (e : Expression) (env : Environment) → Refines (further e env) (further' e env)) where
-  refines_name : (name : List ℕ) (binding : Binding) → Refines (name_meaning source further name binding) (name_meaning source further' name binding)
-  refines_name name (ToTree tree) = same (Value tree)
+module _ (source : Module) (n m : ℕ) (more : n ≤ m) (further further' : Means) (goes : (e : Expression) (env : Environment Tree) → Refines (further e env) (further' e env)) where
+  refines_name : (name : List ℕ) (binding : Binding Tree) → Refines (name_meaning source further name binding) (name_meaning source further' name binding)
+  refines_name name (ToFound tree) = same (Value tree)
   refines_name name ToNoStep = same Failed
   refines_name name (ToExpression e there) = goes e there
   refines_name name ToNothing = same (constant_meaning (constant_named name source.constants))
 
-  refines_body : (body : Judged Expression) (env : Environment) → Refines (body_meaning further body env) (body_meaning further' body env)
+  pub refines_body : (body : Judged Expression) (env : Environment Tree) → Refines (body_meaning further body env) (body_meaning further' body env)
   refines_body (Ok e) env = goes e env
   refines_body (Err first) env = same Failed
 
@@ -73,12 +73,12 @@ module _ (source : Module) (n m : ℕ) (more : n ≤ m) (further further' : Mean
   refines_function None values = same Failed
   refines_function (Some f) values = refines_body (body_of source f.params f.body) (function_environment f.params (list_tree values))
 
-  refines_inline : (operands : Operands) (env : Environment) (f : Option Definition) → Refines (inline_call source further operands env f) (inline_call source further' operands env f)
+  refines_inline : (operands : Operands) (env : Environment Tree) (f : Option Definition) → Refines (inline_call source further operands env f) (inline_call source further' operands env f)
   refines_inline operands env None = same Failed
   refines_inline operands env (Some f) = refines_body (body_of source f.params f.body) (inline_environment f.params operands env)
 
   mutual
-    refines_expression : (e : Expression) (env : Environment) → Refines (expression_meaning source n further e env) (expression_meaning source m further' e env)
+    pub refines_expression : (e : Expression) (env : Environment Tree) → Refines (expression_meaning source n further e env) (expression_meaning source m further' e env)
     refines_expression (Literal tree) env = same (Value tree)
     refines_expression (Name name) env = refines_name name (binding_of name env)
     refines_expression (Choice condition second third) env =
@@ -89,24 +89,24 @@ module _ (source : Module) (n m : ℕ) (more : n ≤ m) (further further' : Mean
     refines_expression (InlineCall name operands) env = refines_inline operands env (definition_named name source.inlines)
     refines_expression (Filled template) env = refines_template template env
 
-    refines_operands : (operands : Operands) (env : Environment) (go go' : List Tree → Meaning) → ((values : List Tree) → Refines (go values) (go' values)) →
+    pub refines_operands : (operands : Operands) (env : Environment Tree) (go go' : List Tree → Meaning) → ((values : List Tree) → Refines (go values) (go' values)) →
         Refines (operands_meaning source n further operands env go) (operands_meaning source m further' operands env go')
     refines_operands NoMore env go go' p = p []
     refines_operands (Operand first rest) env go go' p =
         refines_operands rest env _ _ (λ values. refines_then _ _ _ _ (refines_expression first env) (λ value. p (value ∷ values)))
 
-    refines_template : (t : Template) (env : Environment) → Refines (template_meaning source n further t env) (template_meaning source m further' t env)
+    pub refines_template : (t : Template) (env : Environment Tree) → Refines (template_meaning source n further t env) (template_meaning source m further' t env)
     refines_template (Plain tree) env = same (Value tree)
     refines_template (Both first rest) env = refines_then _ _ _ _ (refines_template rest env) (λ b. refines_then _ _ _ _ (refines_template first env) (λ a. same (Value (Pair a b))))
     refines_template (Unquoted e) env = refines_expression e env
 
-pub larger_within : (source : Module) (n m : ℕ) → n ≤ m → (e : Expression) (env : Environment) → Refines (meaning_within source n e env) (meaning_within source m e env)
+pub larger_within : (source : Module) (n m : ℕ) → n ≤ m → (e : Expression) (env : Environment Tree) → Refines (meaning_within source n e env) (meaning_within source m e env)
 larger_within source zero zero more e env = same _
 larger_within source zero (suc m) more e env = refines_expression source zero (suc m) more _ _ (λ e env. out _) e env
 larger_within source (suc n) zero more e env = absurd (omega arith)
 larger_within source (suc n) (suc m) more e env = refines_expression source (suc n) (suc m) more _ _ (larger_within source n m (omega arith)) e env
 
-pub larger_refines : (source : Module) (e : Expression) (env : Environment) (n m : ℕ) → n ≤ m → Refines (meaning source e env n) (meaning source e env m)
+pub larger_refines : (source : Module) (e : Expression) (env : Environment Tree) (n m : ℕ) → n ≤ m → Refines (meaning source e env n) (meaning source e env m)
 unfolding meaning
 larger_refines source e env n m more = larger_within source n m more e env
 

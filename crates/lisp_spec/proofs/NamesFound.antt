@@ -1,11 +1,10 @@
 -- What is found by a name, and the names of an environment.
 use Rattle.std.proofs.Common.{◌≡◌, ℕ, Bool, true, false, cond, List, [], ◌∷◌, ◌++◌, map, find, inl, inr, Option, Some, None, bytes_eq, refl, sym, ◌∙◌, ap, subst, true≢false}
 use Rattle.std.specs.List.{AllByRecursion}
-use Rattle.clvm_spec.specs.Tree.{Tree}
-use Rattle.lisp_spec.specs.Forms.{Form, Place}
-use Rattle.lisp_spec.specs.Parameters.{Parameter, tree_at}
+use Rattle.lisp_spec.specs.Parameters.{Side, Parameter}
 use Rattle.lisp_spec.specs.ModuleFaults.{is_among}
-use Rattle.lisp_spec.proofs.FormEnvironments.{Environment, Empty, Bound, Astray, Stands, ToTree, ToNoStep, ToExpression, ToNothing, binding_of, bound_to, trees_bound, expression_at, standing, expressions_bound}
+use Rattle.lisp_spec.specs.Expressions.{Expression, Operands}
+use Rattle.lisp_spec.specs.Environments.{Environment, Empty, Bound, Astray, Stands, Binding, ToFound, ToNoStep, ToExpression, ToNothing, binding_of, bound_to, all_bound, operand_at, standing, expressions_bound}
 use Rattle.lisp_spec.proofs.CycleProofs.{cases, not_same, or_false, or_true}
 
 -- ---- what is found by a name
@@ -71,39 +70,38 @@ among_first name xs ys e n = elim (cases (is_among name xs)) [
 
 -- ---- environments
 
-abbrev pub names_in : Environment → List (List ℕ)
-names_in Empty = []
-names_in (Bound name tree others) = name ∷ names_in others
-names_in (Astray name others) = name ∷ names_in others
-names_in (Stands name e there others) = name ∷ names_in others
+module _ {A : Type 0} where
+  abbrev pub names_in : Environment A → List (List ℕ)
+  names_in Empty = []
+  names_in (Bound name found others) = name ∷ names_in others
+  names_in (Astray name others) = name ∷ names_in others
+  names_in (Stands name e there others) = name ∷ names_in others
 
-pub nothing_bound : (name : List ℕ) (env : Environment) → binding_of name env ≡ ToNothing → is_among name (names_in env) ≡ false
-nothing_bound name Empty e = refl
-nothing_bound name (Bound other tree others) e = elim (cases (bytes_eq other name)) [
-  | inl t ↦ let is : ToTree tree ≡ ToNothing = subst (λ b. cond b (ToTree tree) (binding_of name others) ≡ ToNothing) t e in absurd cc
-  | inr f ↦ rw (not_same name other f) (nothing_bound name others (subst (λ b. cond b (ToTree tree) (binding_of name others) ≡ ToNothing) f e))
-]
-nothing_bound name (Astray other others) e = elim (cases (bytes_eq other name)) [
-  | inl t ↦ let is : ToNoStep ≡ ToNothing = subst (λ b. cond b ToNoStep (binding_of name others) ≡ ToNothing) t e in absurd cc
-  | inr f ↦ rw (not_same name other f) (nothing_bound name others (subst (λ b. cond b ToNoStep (binding_of name others) ≡ ToNothing) f e))
-]
-nothing_bound name (Stands other x there others) e = elim (cases (bytes_eq other name)) [
-  | inl t ↦ let is : ToExpression x there ≡ ToNothing = subst (λ b. cond b (ToExpression x there) (binding_of name others) ≡ ToNothing) t e in absurd cc
-  | inr f ↦ rw (not_same name other f) (nothing_bound name others (subst (λ b. cond b (ToExpression x there) (binding_of name others) ≡ ToNothing) f e))
-]
+  no_binding : (name other : List ℕ) (binding : Binding A) (others : Environment A) → (binding ≡ ToNothing → ⊥) → (binding_of name others ≡ ToNothing → is_among name (names_in others) ≡ false) →
+      cond (bytes_eq other name) binding (binding_of name others) ≡ ToNothing → is_among name (other ∷ names_in others) ≡ false
+  no_binding name other binding others some later e = elim (cases (bytes_eq other name)) [
+    | inl t ↦ absurd (some (subst (λ b. cond b binding (binding_of name others) ≡ ToNothing) t e))
+    | inr f ↦ rw (not_same name other f) (later (subst (λ b. cond b binding (binding_of name others) ≡ ToNothing) f e))
+  ]
 
-pub bound_names : (ps : List Parameter) (tree : Tree) → names_in (trees_bound ps tree) ≡ map (λ p. p.name) ps
-bound_names [] tree = refl
-bound_names (p ∷ ps) tree = by (tree_at p.path tree) ∙ ap (λ names. p.name ∷ names) (bound_names ps tree)
-  where
-    by : (at : Option Tree) → names_in (bound_to p.name at (trees_bound ps tree)) ≡ p.name ∷ names_in (trees_bound ps tree)
-    by None = refl
-    by (Some part) = refl
+  pub nothing_bound : (name : List ℕ) (env : Environment A) → binding_of name env ≡ ToNothing → is_among name (names_in env) ≡ false
+  nothing_bound name Empty e = refl
+  nothing_bound name (Bound other found others) e = no_binding name other (ToFound found) others (λ e. cc) (nothing_bound name others) e
+  nothing_bound name (Astray other others) e = no_binding name other ToNoStep others (λ e. cc) (nothing_bound name others) e
+  nothing_bound name (Stands other x there others) e = no_binding name other (ToExpression x there) others (λ e. cc) (nothing_bound name others) e
 
-pub standing_names : (place : Place) (ps : List Parameter) (operands : List Form) (caller : Environment) → names_in (expressions_bound place ps operands caller) ≡ map (λ p. p.name) ps
-standing_names place [] operands caller = refl
-standing_names place (p ∷ ps) operands caller = by (expression_at place p.path operands) ∙ ap (λ names. p.name ∷ names) (standing_names place ps operands caller)
-  where
-    by : (e : Option Form) → names_in (standing p.name e caller (expressions_bound place ps operands caller)) ≡ p.name ∷ names_in (expressions_bound place ps operands caller)
-    by None = refl
-    by (Some e) = refl
+  pub bound_names : (ps : List Parameter) (lead : List Side → Option A) → names_in (all_bound lead ps) ≡ map (λ p. p.name) ps
+  bound_names [] lead = refl
+  bound_names (p ∷ ps) lead = by (lead p.path) ∙ ap (λ names. p.name ∷ names) (bound_names ps lead)
+    where
+      by : (at : Option A) → names_in (bound_to p.name at (all_bound lead ps)) ≡ p.name ∷ names_in (all_bound lead ps)
+      by None = refl
+      by (Some found) = refl
+
+  pub standing_names : (ps : List Parameter) (operands : Operands) (caller : Environment A) → names_in (expressions_bound ps operands caller) ≡ map (λ p. p.name) ps
+  standing_names [] operands caller = refl
+  standing_names (p ∷ ps) operands caller = by (operand_at p.path operands) ∙ ap (λ names. p.name ∷ names) (standing_names ps operands caller)
+    where
+      by : (e : Option Expression) → names_in (standing p.name e caller (expressions_bound ps operands caller)) ≡ p.name ∷ names_in (expressions_bound ps operands caller)
+      by None = refl
+      by (Some e) = refl

@@ -9,7 +9,6 @@ pub mod Macros
 pub mod MacroBodies
 pub mod Expansion
 pub mod ExpansionLaws
-pub mod OperandForms
 pub mod Environments
 pub mod Meaning
 pub mod Agreement

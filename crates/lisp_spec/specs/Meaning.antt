@@ -12,7 +12,7 @@ use Rattle.lisp_spec.specs.Modules.{Module, Definition, Constant, definition_nam
 use Rattle.lisp_spec.specs.ModuleFaults.{Judged}
 use Rattle.lisp_spec.specs.Expressions.{Expression, Literal, Name, Choice, Listing, Operation, FunctionCall, InlineCall, Filled, Operands, NoMore, Operand, Template, Plain, Both, Unquoted}
 use Rattle.lisp_spec.specs.Scopes.{body_of}
-use Rattle.lisp_spec.specs.Environments.{Environment, Binding, ToTree, ToNoStep, ToExpression, ToNothing, binding_of, function_environment, inline_environment}
+use Rattle.lisp_spec.specs.Environments.{Environment, Binding, ToFound, ToNoStep, ToExpression, ToNothing, binding_of, function_environment, inline_environment}
 
 -- How the evaluation of an expression ends, where calls nest no deeper than a count.
 pub data Meaning : Type 0 where
@@ -25,7 +25,7 @@ pub data Meaning : Type 0 where
 
 -- an expression in its environment
 abbrev pub Means : Type 0
-Means = Expression → Environment → Meaning
+Means = Expression → Environment Tree → Meaning
 
 -- goes on from where a part has a value
 abbrev pub if_value : Meaning → (Tree → Meaning) → Meaning
@@ -68,8 +68,8 @@ constant_meaning None = Failed
 constant_meaning (Some constant) = Value constant.value
 
 -- An inline's parameter is evaluated at each use, where its expression stands.
-abbrev pub name_meaning : Module → Means → List ℕ → Binding → Meaning
-name_meaning source further name (ToTree tree) = Value tree
+abbrev pub name_meaning : Module → Means → List ℕ → Binding Tree → Meaning
+name_meaning source further name (ToFound tree) = Value tree
 name_meaning source further name ToNoStep = Failed
 name_meaning source further name (ToExpression e there) = further e there
 name_meaning source further name ToNothing = constant_meaning (constant_named name source.constants)
@@ -77,7 +77,7 @@ name_meaning source further name ToNothing = constant_meaning (constant_named na
 -- ---- bodies
 
 -- Each body of a module without fault is an expression.
-abbrev pub body_meaning : Means → Judged Expression → Environment → Meaning
+abbrev pub body_meaning : Means → Judged Expression → Environment Tree → Meaning
 body_meaning further (Ok e) env = further e env
 body_meaning further (Err first) env = Failed
 
@@ -86,20 +86,20 @@ abbrev pub function_call : Module → Means → Option Definition → List Tree 
 function_call source further None values = Failed
 function_call source further (Some f) values = body_meaning further (body_of source f.params f.body) (function_environment f.params (list_tree values))
 
-abbrev pub inline_call : Module → Means → Operands → Environment → Option Definition → Meaning
+abbrev pub inline_call : Module → Means → Operands → Environment Tree → Option Definition → Meaning
 inline_call source further operands caller None = Failed
 inline_call source further operands caller (Some f) = body_meaning further (body_of source f.params f.body) (inline_environment f.params operands caller)
 
 -- ---- expressions
 
 -- `if`: the third operand where the first is nil, else the second
-abbrev pub chosen : Tree → (second third : Environment → Meaning) → Environment → Meaning
+abbrev pub chosen : Tree → (second third : Environment Tree → Meaning) → Environment Tree → Meaning
 chosen test second third env = if is_nil test then third env else second env
 
 -- The count is for `a`, and what calls go on with has one less.
 module _ (source : Module) (n : ℕ) (further : Means) where
   abbrev mutual
-    pub expression_meaning : Expression → Environment → Meaning
+    pub expression_meaning : Expression → Environment Tree → Meaning
     expression_meaning (Literal tree) env = Value tree
     expression_meaning (Name name) env = name_meaning source further name (binding_of name env)
     expression_meaning (Choice condition second third) env =
@@ -111,13 +111,13 @@ module _ (source : Module) (n : ℕ) (further : Means) where
     expression_meaning (Filled template) env = template_meaning template env
 
     -- The operands are evaluated from the last to the first, each once.
-    pub operands_meaning : Operands → Environment → (List Tree → Meaning) → Meaning
+    pub operands_meaning : Operands → Environment Tree → (List Tree → Meaning) → Meaning
     operands_meaning NoMore env go = go []
     operands_meaning (Operand first more) env go =
         operands_meaning more env (λ values. if_value (expression_meaning first env) (λ value. go (value ∷ values)))
 
     -- Of a pair the later in the text is evaluated first.
-    pub template_meaning : Template → Environment → Meaning
+    pub template_meaning : Template → Environment Tree → Meaning
     template_meaning (Plain tree) env = Value tree
     template_meaning (Both first rest) env = if_value (template_meaning rest env) (λ b. if_value (template_meaning first env) (λ a. Value (Pair a b)))
     template_meaning (Unquoted e) env = expression_meaning e env
@@ -128,7 +128,7 @@ abbrev pub meaning_within : Module → ℕ → Means
 meaning_within source zero = expression_meaning source zero (λ e env. Out)
 meaning_within source (suc n) = expression_meaning source (suc n) (meaning_within source n)
 
-unfoldable pub meaning : Module → Expression → Environment → ℕ → Meaning
+unfoldable pub meaning : Module → Expression → Environment Tree → ℕ → Meaning
 meaning source e env n = meaning_within source n e env
 
 -- The module's own parameters are bound to its argument.
