@@ -233,7 +233,8 @@ module _ (source : Module) (k : ℕ) (eighth : length source.functions / 8 ≤ k
           let p = expression_fits condition (front (inlines_called condition) (inlines_called second ++ inlines_called third) s) in
           let q = expression_fits second (front (inlines_called second) (inlines_called third) later) in
           let r = expression_fits third (behind (inlines_called second) (inlines_called third) later) in
-          λ b. choice_fits _ _ _ (w condition) (w second) (w third) (p b) (q b) (r b)
+          let code = λ (e : Expression) (b : ℕ). expression_code source (further_code source b) e names in
+          λ b. choice_fits (code condition b) (code second b) (code third b) (w condition) (w second) (w third) (p b) (q b) (r b)
       expression_fits (Listing operands) s = λ b. list_fits _ (each operands) (spares_fit operands (operands_fit operands s) b)
       expression_fits (Operation code operands) s = λ b. operator_fits code _ (each operands) (spares_fit operands (operands_fit operands s) b)
       expression_fits (FunctionCall name operands) s = λ b. call_fits name _ (each operands) (index_of name source.functions) refl (spares_fit operands (operands_fit operands s) b)
@@ -248,7 +249,7 @@ module _ (source : Module) (k : ℕ) (eighth : length source.functions / 8 ≤ k
       template_fits : (t : Template) → ShallowIn depth (called_by_template t) → (b : ℕ) → size (template_code source (further_code source b) t names) ≤ 16 + (64 + k) * filled t
       template_fits (Plain tree) s b = tree_fits tree
       template_fits (Both first rest) s b =
-          both_fit _ _ (filled first) (filled rest) (template_fits first (front (called_by_template first) (called_by_template rest) s) b) (template_fits rest (behind (called_by_template first) (called_by_template rest) s) b)
+          both_fit (template_code source (further_code source b) first names) (template_code source (further_code source b) rest names) (filled first) (filled rest) (template_fits first (front (called_by_template first) (called_by_template rest) s) b) (template_fits rest (behind (called_by_template first) (called_by_template rest) s) b)
       template_fits (Unquoted e) s b = unquoted_fits _ (w e) (expression_fits e s b)
 
 -- ---- the module's code
