@@ -23,7 +23,7 @@ use Rattle.lisp_code.proofs.Enough as reaches
 use Rattle.lisp_code.proofs.Plain.{plain}
 use Rattle.lisp_code.specs.Names.{Names, function_names}
 use Rattle.lisp_code.specs.Pieces.{path_code, pair_code, list_path}
-use Rattle.lisp_code.specs.Code.{Codes, body_code}
+use Rattle.lisp_code.specs.Code.{body_code}
 use Rattle.lisp_code.proofs.Depths.{looping, code_within, function_code, table_code, module_code, IsSettled}
 use Rattle.lisp_code.proofs.Corresponding.{Corresponds}
 use Rattle.lisp_code.proofs.Refined.{refines_equal, refines_trans, settled, covered_from, covered_by}

@@ -13,7 +13,7 @@ use Rattle.lisp_spec.specs.ModuleFaults.{Judged}
 use Rattle.lisp_spec.specs.Parameters.{Side, ToRest, tree_at}
 use Rattle.lisp_spec.specs.Expressions.{Expression, Literal, Name, Choice, Listing, Operation, FunctionCall, InlineCall, Filled, Operands, NoMore, Operand, Template, Plain, Both, Unquoted, Scope}
 use Rattle.lisp_spec.specs.Scopes.{body_of, module_scope}
-use Rattle.lisp_spec.specs.Environments.{Environment, Binding, binding_of, function_environment, inline_environment}
+use Rattle.lisp_spec.specs.Environments.{Environment, Binding, function_environment, inline_environment}
 use Rattle.lisp_spec.specs.Meaning.{Meaning, Value, Failed, Wide, Out, Means, if_value, operator_meaning, run_meaning, all_counts, run_values, operate, constant_meaning, name_meaning, body_meaning, function_call, inline_call, chosen, expression_meaning, operands_meaning, template_meaning, meaning_within}
 use Rattle.lisp_spec.proofs.MeaningProofs.{refines_operate, refines_body, refines_expression, refines_operands, refines_template, larger_within}
 use Rattle.lisp_spec.proofs.Soundness.{IsSound, AreSound, IsSoundTemplate, is_sound}
@@ -25,7 +25,7 @@ use Rattle.lisp_code.specs.Names.{Names}
 use Rattle.lisp_code.specs.Pieces.{operator_code, path_code, failing, pair_code, list_code, if_code, list_path}
 use Rattle.lisp_code.specs.Code.{index_of, function_call_code, constant_code, Codes, name_code, body_code, inline_code, expression_code, operand_codes, template_code}
 use Rattle.lisp_code.proofs.Corresponding.{Corresponds, SameName, to_tree, to_no_step, no_path, expression, nothing, Located, here, nowhere}
-use Rattle.lisp_code.proofs.Refined.{refines_equal, refines_trans, covered_then, covered_from, covered_by, rises_then, rises_same}
+use Rattle.lisp_code.proofs.Refined.{refines_equal, covered_then, covered_from, covered_by, rises_then, rises_same}
 use Rattle.lisp_code.proofs.EnoughFuel.{fuel_is_enough}
 use Rattle.lisp_code.proofs.PlainForms.{plain_operator, plain_path, plain_failing, plain_pair, picked, if_says, call_says, unknown_call, list_says, quote_says}
 use Rattle.lisp_code.proofs.Lookups.{inline_corresponds, same_name, located}

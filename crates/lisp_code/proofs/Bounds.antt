@@ -13,12 +13,12 @@ use Rattle.lisp_spec.specs.Expressions.{Expression, Literal, Name, Choice, Listi
 use Rattle.lisp_spec.specs.Scopes.{body_of}
 use Rattle.lisp_spec.specs.Environments.{Binding, ToFound, ToNoStep, ToExpression, ToNothing, binding_of, all_bound, step_code, part_of, operand_at, standing, expressions_bound, inline_environment}
 use Rattle.lisp_spec.specs.Weights.{tree_weight}
-use Rattle.lisp_spec.specs.ExpressionWeights.{Standing, own, as_tree, constant_weight, name_weight, inline_weight, weighed, together, filled_weight, weight_at, body_weight, weight_within, expression_weight, definition_weight, module_bound}
+use Rattle.lisp_spec.specs.ExpressionWeights.{Standing, own, as_tree, constant_weight, name_weight, inline_weight, weighed, together, filled_weight, weight_at, body_weight, expression_weight, definition_weight, module_bound}
 use Rattle.lisp_spec.specs.Cycles.{inlines_called, called_by_operands, called_by_template}
 use Rattle.lisp_spec.specs.CycleLaws.{HasNoCycle, weight_of}
 use Rattle.lisp_spec.proofs.NestingProofs.{Shallow, shallow, weight_is_its_step}
 use Rattle.lisp_code.specs.Names.{Names, function_names}
-use Rattle.lisp_code.specs.Pieces.{operator_code, path_code, failing, pair_code, list_code, if_code}
+use Rattle.lisp_code.specs.Pieces.{operator_code, path_code, pair_code, list_code, if_code}
 use Rattle.lisp_code.specs.Code.{Codes, index_of, function_call_code, constant_code, name_code, body_code, inline_code, expression_code, operand_codes, template_code}
 use Rattle.lisp_code.proofs.Depths.{looping, code_within, function_code, table_code, module_code}
 use Rattle.lisp_code.proofs.Settling.{among_front, among_behind, among_first, called_shallow}

@@ -8,7 +8,7 @@ use Rattle.lisp_spec.specs.ModuleFaults.{Judged}
 use Rattle.lisp_spec.specs.Parameters.{Side, ToRest, tree_at}
 use Rattle.lisp_spec.specs.Expressions.{Expression, Literal, Name, Choice, Listing, Operation, FunctionCall, InlineCall, Filled, Operands, NoMore, Operand, Template, Plain, Both, Unquoted, Scope}
 use Rattle.lisp_spec.specs.Scopes.{body_of, module_scope}
-use Rattle.lisp_spec.specs.Environments.{Environment, Binding, binding_of, function_environment, inline_environment}
+use Rattle.lisp_spec.specs.Environments.{Environment, Binding, function_environment, inline_environment}
 use Rattle.lisp_spec.specs.Meaning.{Meaning, Value, Failed, Means, if_value, operator_meaning, all_counts, run_values, operate, constant_meaning, name_meaning, body_meaning, function_call, inline_call, chosen, expression_meaning, operands_meaning, template_meaning}
 use Rattle.lisp_spec.proofs.Soundness.{IsSound, AreSound, IsSoundTemplate, is_sound}
 use Rattle.lisp_code.proofs.Refining.{same, Covered, Rises}

@@ -4,13 +4,16 @@ use Rattle.clvm_spec.specs.Tree.{Tree}
 use Rattle.clvm_spec.specs.Currying.{quote_of}
 use Rattle.lisp_spec.specs.Modules.{Definition, definition_named}
 use Rattle.lisp_spec.specs.Parameters.{Side}
-use Rattle.lisp_spec.specs.Expressions.{Expression, Literal, Name, Choice, Listing, Operation, FunctionCall, InlineCall, Filled, Operands, NoMore, Operand, Template, Plain, Both, Unquoted}
+use Rattle.lisp_spec.specs.Expressions.{Expression, Literal, Name, Choice, Listing, Operation, FunctionCall, InlineCall, Filled, Operands, NoMore, Operand, Template, Both, Unquoted}
 use Rattle.lisp_spec.specs.Scopes.{body_of}
 use Rattle.lisp_spec.specs.Environments.{Binding, binding_of, inline_environment}
 use Rattle.lisp_code.specs.Names.{Names}
 use Rattle.lisp_code.specs.Pieces.{operator_code, pair_code, list_code, if_code}
-use Rattle.lisp_code.specs.Code.{index_of, function_call_code, name_code, body_code, inline_code, expression_code, operand_codes}
+use Rattle.lisp_code.specs.Code.{index_of, function_call_code, name_code, body_code, inline_code, operand_codes}
 use Rattle.lisp_compile.specs.Jobs.{Coding, further, codes_of, template_of}
+
+three : (a b c a' b' c' : Tree) → a ≡ a' → b ≡ b' → c ≡ c' → if_code a b c ≡ if_code a' b' c'
+three a b c a' b' c' p q r = ap (λ x. if_code x b c) p ∙ ap (λ x. if_code a' x c) q ∙ ap (λ x. if_code a' b' x) r
 
 module _ (it : Coding) (names : Names) where
   codes_are : (operands : Operands) → operand_codes it.source (further it) operands names ≡ codes_of it operands names
@@ -25,8 +28,7 @@ module _ (it : Coding) (names : Names) where
 
   pub code_choice : (condition second third : Expression) → it.code (Choice condition second third) names ≡ if_code (it.code condition names) (it.code second names) (it.code third names)
   code_choice condition second third =
-      it.step (Choice condition second third) names
-      ∙ ap (λ x. if_code x _ _) (sym (it.step condition names)) ∙ ap (λ x. if_code _ x _) (sym (it.step second names)) ∙ ap (λ x. if_code _ _ x) (sym (it.step third names))
+      it.step (Choice condition second third) names ∙ three _ _ _ _ _ _ (sym (it.step condition names)) (sym (it.step second names)) (sym (it.step third names))
 
   pub code_listing : (operands : Operands) → it.code (Listing operands) names ≡ list_code (codes_of it operands names)
   code_listing operands = it.step (Listing operands) names ∙ ap list_code (codes_are operands)

@@ -1,14 +1,14 @@
 -- Jobs at the top, and what each job comes to in smaller ones.
-use Rattle.std.proofs.Common.{◌≡◌, ℕ, suc, ◌+◌, ◌*◌, ◌<◌, ◌≤◌, List, [], ◌∷◌, ◌++◌, Some, None, refl, sym, ap, ◌∙◌, ltb, length, arith}
+use Rattle.std.proofs.Common.{◌≡◌, ℕ, ◌+◌, ◌≤◌, List, [], ◌∷◌, ◌++◌, refl, ap, ltb, length, arith}
 use Rattle.std.proofs.lemmas.List.{length-append}
 use Rattle.std.proofs.lemmas.Bool.{cond_both}
 use Rattle.clvm_spec.specs.Spelling.{prefix}
 use Rattle.clvm_spec.specs.Tree.{Tree, Atom, Pair, nil, list_tree}
-use Rattle.lisp_spec.specs.Parameters.{Side, ToFirst}
+use Rattle.lisp_spec.specs.Parameters.{ToFirst}
 use Rattle.clvm_spec.specs.Currying.{quote_of}
-use Rattle.lisp_code.specs.Pieces.{operator_code, path_code, pair_code, list_code, if_code, list_path}
+use Rattle.lisp_code.specs.Pieces.{operator_code, path_code, pair_code, if_code, list_path}
 use Rattle.lisp_code.proofs.Lengths.{size, size_pair}
-use Rattle.lisp_compile.specs.Jobs.{Coding, Job, Call, Stack, called, done, all_done, room, rooms, left, lefts}
+use Rattle.lisp_compile.specs.Jobs.{Coding, Job, Call, Stack, called, done, all_done, room, rooms, lefts}
 
 -- ---- jobs at the top
 

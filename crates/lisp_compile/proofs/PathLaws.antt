@@ -1,7 +1,6 @@
 -- The numbers and the atoms of paths, eight steps by eight.
-use Rattle.std.proofs.Common.{◌≡◌, ℕ, zero, suc, ◌+◌, ◌-◌, ◌*◌, ◌/◌, ◌%◌, ◌^◌, ◌<◌, ◌≤◌, List, [], ◌∷◌, ◌++◌, length, map, get_or, drop, take, reverse, refl, sym, ap, ap₂, ◌∙◌, subst, arith}
-use Rattle.std.proofs.lemmas.List.{map-append, length-append, length-map, length-drop, reverse-append, take-append-drop, length-take-le}
-use Rattle.std.proofs.Math.Seq.{drop-cons}
+use Rattle.std.proofs.Common.{◌≡◌, ℕ, zero, suc, ◌+◌, ◌*◌, ◌/◌, ◌%◌, ◌^◌, ◌<◌, ◌≤◌, List, [], ◌∷◌, ◌++◌, length, drop, take, reverse, refl, sym, ap, ap₂, ◌∙◌, subst, arith}
+use Rattle.std.proofs.lemmas.List.{map-append, length-map, length-drop, reverse-append, take-append-drop, length-take-le}
 use Rattle.std.proofs.lemmas.Int.Digits.{digits_of_step}
 use Rattle.std.specs.Int.Digits.{digits_of}
 use Rattle.lisp_spec.specs.Parameters as parameters
@@ -9,7 +8,6 @@ use Rattle.lisp_spec.specs.Parameters.{ToFirst, ToRest}
 use Rattle.lisp_code.specs.Paths.{path_number, path_atom}
 use Rattle.lisp_code.specs.Pieces.{list_path}
 use Rattle.lisp_compile.specs.declared.parameters.Side.{Side}
-use Rattle.lisp_compile.specs.declared.parameters.Side.TheVariants.{First, Rest}
 use Rattle.lisp_compile.specs.Sides.{side_of, path_in}
 
 pub number_above : (path : List parameters.Side) → 1 ≤ path_number path

@@ -1,13 +1,13 @@
 -- What templates, operands and their parts are made of.
-use Rattle.std.proofs.Common.{◌≡◌, ℕ, ◌+◌, ◌*◌, ◌<◌, ◌≤◌, List, [], ◌∷◌, ◌++◌, Some, refl, sym, ap, arith}
-use Rattle.clvm_spec.specs.Tree.{Tree, list_tree}
+use Rattle.std.proofs.Common.{List, [], ◌∷◌, ◌++◌, Some, refl, sym, ap, arith}
+use Rattle.clvm_spec.specs.Tree.{list_tree}
 use Rattle.lisp_spec.specs.Parameters.{Side}
-use Rattle.lisp_spec.specs.Expressions.{Expression, Filled, Operands, Operand, Template, Both, Unquoted}
+use Rattle.lisp_spec.specs.Expressions.{Expression, Operands, Operand, Template, Both, Unquoted}
 use Rattle.lisp_spec.specs.Environments.{step_code}
 use Rattle.lisp_code.specs.Names.{Names}
-use Rattle.lisp_code.specs.Pieces.{operator_code, pair_code, list_code}
+use Rattle.lisp_code.specs.Pieces.{list_code}
 use Rattle.lisp_code.proofs.Lengths.{size, size_pair}
-use Rattle.lisp_compile.specs.Jobs.{Coding, Job, CodeOf, TemplateOf, PairOf, CodesOf, ListOf, PartOf, Cons, OneOperand, PairCode, codes_of, template_of, part_code, done, all_done, room, rooms, left, lefts}
+use Rattle.lisp_compile.specs.Jobs.{CodeOf, TemplateOf, PairOf, CodesOf, ListOf, PartOf, Cons, OneOperand, PairCode, codes_of, template_of, part_code}
 use Rattle.lisp_compile.specs.Plans.{Plan, made, worked, Becomes}
 use Rattle.lisp_compile.proofs.JobLaws.{size_pair_code, size_one}
 use Rattle.lisp_compile.proofs.CodingLaws.{code_unquoted}

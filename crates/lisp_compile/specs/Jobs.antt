@@ -1,5 +1,5 @@
 -- What is to be made, on trees: each job goes on with the trees that are made so far, the newest first. This project's own.
-use Rattle.std.specs.Prelude.{◌≡◌, ℕ, ◌+◌, ◌*◌, List, [], ◌∷◌, map, Option, Some, None}
+use Rattle.std.specs.Prelude.{◌≡◌, ℕ, ◌+◌, ◌*◌, List, [], ◌∷◌, Option, Some, None}
 use Rattle.clvm_spec.specs.declared.op_codes.TheConstants.{APPLY}
 use Rattle.clvm_spec.specs.Tree.{Tree, Atom, Pair, list_tree}
 use Rattle.lisp_spec.specs.Modules.{Module}

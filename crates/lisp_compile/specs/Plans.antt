@@ -1,5 +1,5 @@
 -- The codes that are made, the work to make them, and what a job comes to. This project's own.
-use Rattle.std.specs.Prelude.{◌≡◌, ℕ, ◌*◌, ◌<◌, ◌≤◌, List, ◌∷◌, Some}
+use Rattle.std.specs.Prelude.{◌≡◌, ◌<◌, ◌≤◌, List, ◌∷◌, Some}
 use Rattle.clvm_spec.specs.Tree.{Tree, Pair, nil}
 use Rattle.lisp_spec.specs.Modules.{Module}
 use Rattle.lisp_code.specs.Code.{Codes}

@@ -1,17 +1,17 @@
 -- An expression means the same in each module that has all that is named in it.
-use Rattle.std.proofs.Common.{◌≡◌, ℕ, zero, suc, Bool, true, false, cond, List, [], ◌∷◌, ◌++◌, Option, Some, None, Ok, refl, sym, ◌∙◌, ap, subst}
+use Rattle.std.proofs.Common.{◌≡◌, ℕ, zero, suc, Bool, true, false, cond, List, [], ◌∷◌, ◌++◌, Option, Some, None, refl, sym, ◌∙◌, ap, subst}
 use Rattle.std.specs.List.{AllByRecursion}
 use Rattle.clvm_spec.specs.Tree.{Tree, list_tree}
 use Rattle.clvm_spec.specs.Operators.{is_nil}
 use Rattle.lisp_spec.specs.Forms.{Form}
 use Rattle.lisp_spec.specs.Modules.{Module, Definition, definition_named, constant_named, definition_names, constant_names}
-use Rattle.lisp_spec.specs.Parameters.{Side, Parameter, parameters, parameter_names, tree_at}
+use Rattle.lisp_spec.specs.Parameters.{Parameter, parameters, parameter_names, tree_at}
 use Rattle.lisp_spec.specs.ModuleFaults.{is_among}
 use Rattle.lisp_spec.specs.Expressions.{Expression, Literal, Name, Choice, Listing, Operation, FunctionCall, InlineCall, Filled, Operands, NoMore, Operand, Template, Plain, Both, Unquoted, Scope}
 use Rattle.lisp_spec.specs.Scopes.{body_of, module_scope, IsExpression}
 use Rattle.lisp_spec.specs.ModuleLaws.{IsBound}
 use Rattle.lisp_spec.specs.Environments.{Environment, Empty, Bound, Astray, Stands, Binding, ToFound, ToNoStep, ToExpression, ToNothing, binding_of, bound_to, all_bound, function_environment, operand_at, standing, expressions_bound, inline_environment}
-use Rattle.lisp_spec.specs.Meaning.{Meaning, Value, Failed, Wide, Out, Means, if_value, constant_meaning, name_meaning, body_meaning, function_call, inline_call, operate, expression_meaning, operands_meaning, template_meaning, meaning_within}
+use Rattle.lisp_spec.specs.Meaning.{Meaning, Value, Failed, Wide, Out, Means, if_value, constant_meaning, name_meaning, body_meaning, function_call, inline_call, expression_meaning, operands_meaning, template_meaning, meaning_within}
 use Rattle.lisp_spec.proofs.NamesFound.{found_has, among_behind, names_in, nothing_bound, bound_names, standing_names}
 use Rattle.lisp_spec.proofs.Soundness.{IsSound, AreSound, IsSoundTemplate, is_sound, IsSoundOption, sound_at}
 

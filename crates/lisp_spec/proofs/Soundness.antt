@@ -1,5 +1,5 @@
 -- What is read in a scope names only what the scope has, and no operator of it is `q`.
-use Rattle.std.proofs.Common.{◌≡◌, ℕ, ◌==◌, true, false, [], ◌∷◌, List, Option, Some, None, refl}
+use Rattle.std.proofs.Common.{◌≡◌, ◌==◌, true, false, [], ◌∷◌, List, Option, Some, None, refl}
 use Rattle.lisp_spec.specs.Forms.{Form}
 use Rattle.lisp_spec.specs.Parameters.{Side, ToFirst, ToRest}
 use Rattle.lisp_spec.specs.ModuleFaults.{is_among}

@@ -1,7 +1,6 @@
-use Rattle.std.proofs.Common.{◌≡◌, ◌+◌, ◌*◌, ◌%◌, ◌<◌, ◌≤◌, ◌^◌, ◌++◌, ◌∷◌, [], length, drop, take, reverse, Fits, sym, ap, ap₂, ◌∙◌, subst, arith, append_assoc}
-use Rattle.std.proofs.lemmas.List.{length-map, length-drop, reverse-append}
+use Rattle.std.proofs.Common.{◌≡◌, ◌%◌, ◌<◌, ◌++◌, ◌∷◌, [], take, reverse, sym, ap, ap₂, ◌∙◌, arith, append_assoc}
 use Rattle.lisp_code.specs.Paths.{path_number, path_atom}
-use Rattle.lisp_compile.specs.Sides.{side_of, path_in}
+use Rattle.lisp_compile.specs.Sides.{path_in}
 use Rattle.lisp_compile.proofs.PathLaws.{atom_step, number_above, number_within, atom_short, reverse-push}
 use Rattle.lisp_compile.proofs.path.bytes_of.Goals as goal
 

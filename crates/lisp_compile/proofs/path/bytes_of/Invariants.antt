@@ -1,4 +1,4 @@
-use Rattle.std.proofs.Common.{◌≡◌, ℕ, ◌++◌, length, reverse}
+use Rattle.std.proofs.Common.{◌≡◌, ◌++◌, length, reverse}
 use Rattle.lisp_code.specs.Paths.{path_atom}
 use Rattle.lisp_compile.specs.Sides.{path_in}
 use Rattle.lisp_compile.proofs.path.bytes_of.Given as goal

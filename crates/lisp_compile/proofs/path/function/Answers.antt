@@ -1,4 +1,4 @@
-use Rattle.std.proofs.Common.{◌≡◌, ◌+◌, suc, ◌∷◌, ◌++◌, [], refl, sym, ap, ◌∙◌, subst, arith, add-one}
+use Rattle.std.proofs.Common.{◌≡◌, ◌∷◌, ◌++◌, [], sym, ap, ◌∙◌, subst, arith, add-one}
 use Rattle.lisp_spec.specs.Parameters.{ToFirst, ToRest}
 use Rattle.lisp_code.specs.Pieces.{path_code, list_path}
 use Rattle.std.specs.Prelude.{IfOk}

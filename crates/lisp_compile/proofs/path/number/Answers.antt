@@ -1,7 +1,4 @@
-use Rattle.std.proofs.Common.{◌≡◌, ◌+◌, ◌*◌, ◌<◌, ◌≤◌, ◌^◌, length, drop, Fits, subst, arith}
-use Rattle.std.proofs.lemmas.List.{length-map, length-drop}
-use Rattle.lisp_code.specs.Paths.{path_number}
-use Rattle.lisp_compile.specs.Sides.{side_of, path_in}
+use Rattle.std.proofs.Common.{arith}
 use Rattle.lisp_compile.proofs.PathLaws.{below_seven}
 use Rattle.lisp_compile.proofs.path.number.Goals as goal
 

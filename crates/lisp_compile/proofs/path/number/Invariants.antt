@@ -1,4 +1,4 @@
-use Rattle.std.proofs.Common.{◌≡◌, ℕ, ◌≤◌, length, drop}
+use Rattle.std.proofs.Common.{◌≡◌, ◌≤◌, length, drop}
 use Rattle.lisp_code.specs.Paths.{path_number}
 use Rattle.lisp_compile.specs.Sides.{path_in}
 use Rattle.lisp_compile.proofs.path.number.Given as goal
