@@ -23,6 +23,7 @@ use Rattle.lisp_code.proofs.Enough as reaches
 use Rattle.lisp_code.proofs.Plain.{plain}
 use Rattle.lisp_code.specs.Names.{Names, function_names}
 use Rattle.lisp_code.specs.Pieces.{path_code, pair_code, list_path}
+use Rattle.lisp_code.specs.Codes.{Other, tree_of}
 use Rattle.lisp_code.specs.Code.{body_code}
 use Rattle.lisp_code.proofs.Depths.{looping, code_within, function_code, table_code, module_code, IsSettled}
 use Rattle.lisp_code.proofs.Corresponding.{Corresponds}
@@ -41,10 +42,10 @@ module _ (source : Module) (depth : ℕ) where
   table = table_code source depth
 
   abbrev pub Given : ℕ → ℕ → Type 0
-  Given n b = (e : Expression) (scope : Scope) → IsSound scope e → (env : Environment Tree) (names : Names) (argument : Tree) → Corresponds argument env names → Covered (meaning_within source n e env) (λ m. plain m (code_within source b e names) (Pair table argument))
+  Given n b = (e : Expression) (scope : Scope) → IsSound scope e → (env : Environment Tree) (names : Names) (argument : Tree) → Corresponds argument env names → Covered (meaning_within source n e env) (λ m. plain m (tree_of (code_within source b e names)) (Pair table argument))
 
   body_given : (n b : ℕ) → Given n b → (params body : Form) (argument : Tree) (read : Judged Expression) → body_of source params body ≡ read →
-      Covered (body_meaning (meaning_within source n) read (function_environment params argument)) (λ m. plain m (body_code (code_within source b) read (function_names params)) (Pair table argument))
+      Covered (body_meaning (meaning_within source n) read (function_environment params argument)) (λ m. plain m (tree_of (body_code (code_within source b) read (function_names params))) (Pair table argument))
   body_given n b given params body argument (Ok e) is =
       given e (module_scope source params) (is_sound (module_scope source params) body e is) (function_environment params argument) (function_names params) argument (function_corresponds argument params)
   body_given n b given params body argument (Err first) is = covered_failing (Pair table argument)
@@ -55,7 +56,7 @@ module _ (source : Module) (depth : ℕ) where
 
   -- A count that doesn't suffice covers all but what fails at once.
   no_body : (params body : Form) (argument : Tree) (read : Judged Expression) →
-      Covered (body_meaning (λ e env. Out) read (function_environment params argument)) (λ m. plain m (body_code (code_within source depth) read (function_names params)) (Pair table argument))
+      Covered (body_meaning (λ e env. Out) read (function_environment params argument)) (λ m. plain m (tree_of (body_code (code_within source depth) read (function_names params))) (Pair table argument))
   no_body params body argument (Ok e) = (0, out _)
   no_body params body argument (Err first) = covered_failing (Pair table argument)
 
@@ -67,7 +68,7 @@ module _ (source : Module) (depth : ℕ) where
 
   pub given : (n b : ℕ) → n ≤ b → n ≤ depth → Given n b
   unfolding Here
-  given zero zero h k e scope s env names argument c = expression_here source zero (λ e env. Out) (λ e names. looping) table (λ e scope s env names argument c. (0, out _)) no_calls argument scope e s env names c
+  given zero zero h k e scope s env names argument c = expression_here source zero (λ e env. Out) (λ e names. Other looping) table (λ e scope s env names argument c. (0, out _)) no_calls argument scope e s env names c
   given zero (suc b) h k e scope s env names argument c = expression_here source zero (λ e env. Out) (code_within source b) table (λ e scope s env names argument c. (0, out _)) no_calls argument scope e s env names c
   given (suc n) zero h k e scope s env names argument c = absurd (omega arith)
   given (suc n) (suc b) h k e scope s env names argument c =
@@ -77,10 +78,10 @@ module _ (source : Module) (depth : ℕ) where
 
   abbrev pub Meant : ℕ → ℕ → Type 0
   Meant most b = (m : ℕ) → m ≤ most → (e : Expression) (scope : Scope) → IsSound scope e → (env : Environment Tree) (names : Names) (argument : Tree) → Corresponds argument env names →
-      Covered (plain m (code_within source b e names) (Pair table argument)) (λ n. meaning_within source n e env)
+      Covered (plain m (tree_of (code_within source b e names)) (Pair table argument)) (λ n. meaning_within source n e env)
 
   body_meant : (most b : ℕ) → Meant most b → (m : ℕ) → m ≤ most → (params body : Form) (argument : Tree) (read : Judged Expression) → body_of source params body ≡ read →
-      Covered (plain m (body_code (code_within source b) read (function_names params)) (Pair table argument)) (λ n. body_meaning (meaning_within source n) read (function_environment params argument))
+      Covered (plain m (tree_of (body_code (code_within source b) read (function_names params))) (Pair table argument)) (λ n. body_meaning (meaning_within source n) read (function_environment params argument))
   body_meant most b meant m le params body argument (Ok e) is =
       meant m le e (module_scope source params) (is_sound (module_scope source params) body e is) (function_environment params argument) (function_names params) argument (function_corresponds argument params)
   body_meant most b meant m le params body argument (Err first) is = (0, failing_refines m (Pair table argument))
@@ -95,7 +96,7 @@ module _ (source : Module) (depth : ℕ) where
   meant_by : (most : ℕ) → CallsMeant most → (b : ℕ) → Meant most b
   unfolding There
   meant_by most calls zero m le e scope s env names argument c =
-      by_expression _ e env (expression_there source table most calls (λ e names. looping)
+      by_expression _ e env (expression_there source table most calls (λ e names. Other looping)
       (λ m le e scope s env names argument c. (0, refines_trans _ _ _ (refines_equal _ _ (looping_says_nothing m (Pair table argument))) (out _))) argument scope e s env names c m le)
   meant_by most calls (suc b) m le e scope s env names argument c =
       by_expression _ e env (expression_there source table most calls (code_within source b)
@@ -112,7 +113,7 @@ module _ (source : Module) (depth : ℕ) where
   -- ---- the module's code
 
   abbrev pub own_code : Tree
-  own_code = body_code (code_within source depth) (body_of source source.params source.body) (function_names source.params)
+  own_code = tree_of (body_code (code_within source depth) (body_of source source.params source.body) (function_names source.params))
 
   start_says : (m : ℕ) (argument : Tree) → Refines (plain m (pair_code (quote_of table) (path_code [])) argument) (Value (Pair table argument))
   start_says zero argument = out _

@@ -1,19 +1,20 @@
 -- What code gives, its source means.
-use Rattle.std.proofs.Common.{◌≡◌, ℕ, zero, suc, ◌+◌, ◌==◌, ◌<◌, ◌≤◌, Bool, true, false, cond, List, [], ◌∷◌, map, Option, Some, None, Ok, Err, refl, sym, ap, subst, arith}
+use Rattle.std.proofs.Common.{◌≡◌, ℕ, zero, suc, ◌+◌, ◌==◌, ◌<◌, ◌≤◌, Bool, true, false, cond, List, [], ◌∷◌, ◌++◌, map, Option, Some, None, Ok, Err, refl, sym, ap, ◌∙◌, subst, arith}
+use Rattle.std.proofs.lemmas.Bool.{eqb-true}
 use Rattle.clvm_spec.specs.declared.fuel.Fuel.{Fuel}
 use Rattle.clvm_spec.specs.Spending.{Spending}
-use Rattle.clvm_spec.specs.Tree.{Tree, Atom, Pair, list_tree}
+use Rattle.clvm_spec.specs.Tree.{Tree, Atom, Pair, nil, list_tree}
 use Rattle.clvm_spec.specs.Outcomes.{Outcome}
 use Rattle.clvm_spec.specs.OperatorTable.{applied}
 use Rattle.clvm_spec.specs.Evaluation.{evaluation, run_outcome}
-use Rattle.clvm_spec.specs.Currying.{quote_of}
 use Rattle.clvm_spec.proofs.SpendingLaws.{Covers}
-use Rattle.lisp_spec.specs.Modules.{Module, Definition, Constant, definition_named, constant_named}
+use Rattle.lisp_spec.specs.Modules as modules
+use Rattle.lisp_spec.specs.Modules.{Module, Definition, definition_named, constant_named}
 use Rattle.lisp_spec.specs.ModuleFaults.{Judged}
-use Rattle.lisp_spec.specs.Parameters.{Side, ToRest, tree_at}
+use Rattle.lisp_spec.specs.Parameters.{Side, ToFirst, ToRest, tree_at}
 use Rattle.lisp_spec.specs.Expressions.{Expression, Literal, Name, Choice, Listing, Operation, FunctionCall, InlineCall, Filled, Operands, NoMore, Operand, Template, Plain, Both, Unquoted, Scope}
 use Rattle.lisp_spec.specs.Scopes.{body_of, module_scope}
-use Rattle.lisp_spec.specs.Environments.{Environment, Binding, function_environment, inline_environment}
+use Rattle.lisp_spec.specs.Environments.{step_code, Environment, Binding, function_environment, inline_environment}
 use Rattle.lisp_spec.specs.Meaning.{Meaning, Value, Failed, Wide, Out, Means, if_value, operator_meaning, run_meaning, all_counts, run_values, operate, constant_meaning, name_meaning, body_meaning, function_call, inline_call, chosen, expression_meaning, operands_meaning, template_meaning, meaning_within}
 use Rattle.lisp_spec.proofs.MeaningProofs.{refines_operate, refines_body, refines_expression, refines_operands, refines_template, larger_within}
 use Rattle.lisp_spec.proofs.Soundness.{IsSound, AreSound, IsSoundTemplate, is_sound}
@@ -22,12 +23,15 @@ use Rattle.lisp_code.proofs.Enough.{Reaches, value, failed, wide, Enough}
 use Rattle.lisp_code.proofs.Enough as reaches
 use Rattle.lisp_code.proofs.Plain.{plain_run, plain_apply, plain_values, plain, found_meaning}
 use Rattle.lisp_code.specs.Names.{Names}
-use Rattle.lisp_code.specs.Pieces.{operator_code, path_code, failing, pair_code, list_code, if_code, list_path}
-use Rattle.lisp_code.specs.Code.{index_of, function_call_code, constant_code, Codes, name_code, body_code, inline_code, expression_code, operand_codes, template_code}
-use Rattle.lisp_code.proofs.Corresponding.{Corresponds, SameName, to_tree, to_no_step, no_path, expression, nothing, Located, here, nowhere}
-use Rattle.lisp_code.proofs.Refined.{refines_equal, covered_then, covered_from, covered_by, rises_then, rises_same}
+use Rattle.lisp_code.specs.Pieces.{operator_code, path_code, failing, pair_code, if_code, list_path}
+use Rattle.lisp_code.specs.Codes.{Code, Path, Other, constant_tree, tree_of, fails, pair_of, list_of, step_of, operation_of, choice_of, call_of}
+use Rattle.lisp_code.specs.Codes as codes
+use Rattle.lisp_code.specs.Code.{index_of, constant_code, Codes, name_code, body_code, inline_code, expression_code, operand_codes, template_code}
+use Rattle.lisp_code.proofs.Corresponding.{Corresponds, SameName, to_tree, to_no_step, no_path, expression, nothing, Located, nowhere}
+use Rattle.lisp_code.proofs.Corresponding as corresponding
+use Rattle.lisp_code.proofs.Refined.{refines_equal, refines_trans, covered_then, covered_same, covered_from, covered_by, rises_then, rises_same}
 use Rattle.lisp_code.proofs.EnoughFuel.{fuel_is_enough}
-use Rattle.lisp_code.proofs.PlainForms.{plain_operator, plain_path, plain_failing, plain_pair, picked, if_says, call_says, unknown_call, list_says, quote_says}
+use Rattle.lisp_code.proofs.PlainForms.{plain_operator, plain_path, plain_failing, plain_pair, picked, if_says, call_says, unknown_call, constant_is, constant_says, constant_choice, found_step, pair_operates}
 use Rattle.lisp_code.proofs.Lookups.{inline_corresponds, same_name, located}
 use Rattle.lisp_code.proofs.Forward.{natural, list_value}
 
@@ -95,7 +99,7 @@ module _ (source : Module) (table : Tree) (most : ℕ)
     (code : Tree) × (tree_at (list_path i) table ≡ Some code) × ((m : ℕ) → m < most → (t : Tree) → Covered (plain m code (Pair table t)) (body_says source meaning_within f (function_environment f.params t))))
     (codes_further : Codes)
     (goes : (m : ℕ) → m ≤ most → (e : Expression) (scope : Scope) → IsSound scope e → (env : Environment Tree) (names : Names) (argument : Tree) → Corresponds argument env names →
-    Covered (plain m (codes_further e names) (Pair table argument)) (λ n. further_of source n e env)) where
+    Covered (plain m (tree_of (codes_further e names)) (Pair table argument)) (λ n. further_of source n e env)) where
   abbrev says : Expression → Environment Tree → ℕ → Meaning
   says e env n = expression_meaning source n (further_of source n) e env
 
@@ -124,92 +128,33 @@ module _ (source : Module) (table : Tree) (most : ℕ)
   operate_rises code values a b le = refines_operate a b le code values
 
   module _ (argument : Tree) (scope : Scope) where
-    unfoldable pub There : (ℕ → Meaning) → Tree → Type 0
-    There y code = (m : ℕ) → m ≤ most → Covered (plain m code (Pair table argument)) y
+    abbrev here : Tree
+    here = Pair table argument
 
-    OperandsThere : Operands → Environment Tree → List Tree → Type 0
-    OperandsThere operands env codes = (m : ℕ) → m ≤ most → (go : List Tree → Meaning) (go' : ℕ → List Tree → Meaning) → ((values : List Tree) → Rises (λ n. go' n values)) → ((values : List Tree) → Covered (go values) (λ n. go' n values)) →
-        Covered (plain_values (λ code. plain m code (Pair table argument)) codes go) (operands_say operands env go')
+    -- ---- pieces of code, as trees
 
-    quote_there : (tree : Tree) → There (λ n. Value tree) (quote_of tree)
-    unfolding There
-    quote_there tree m le = (0, quote_says m tree (Pair table argument))
+    ThereTree : (ℕ → Meaning) → Tree → Type 0
+    ThereTree y code = (m : ℕ) → m ≤ most → Covered (plain m code here) y
 
-    failing_there : There (λ n. Failed) failing
-    unfolding There
-    failing_there m le = (0, failing_refines m (Pair table argument))
+    TreesThere : Operands → Environment Tree → List Tree → Type 0
+    TreesThere operands env codes = (m : ℕ) → m ≤ most → (go : List Tree → Meaning) (go' : ℕ → List Tree → Meaning) → ((values : List Tree) → Rises (λ n. go' n values)) → ((values : List Tree) → Covered (go values) (λ n. go' n values)) →
+        Covered (plain_values (λ code. plain m code here) codes go) (operands_say operands env go')
 
-    path_there : (path : List Side) (x : Meaning) → found_meaning (tree_at path (Pair table argument)) ≡ x → There (λ n. x) (path_code path)
-    unfolding There
-    path_there path x e m le = (0, subst (Refines (plain m (path_code path) (Pair table argument))) e (path_refines m path (Pair table argument)))
-
-    constant_there : (found : Option Constant) → There (λ n. constant_meaning found) (constant_code found)
-    constant_there None = failing_there
-    constant_there (Some constant) = quote_there constant.value
-
-    name_there : (name : List ℕ) (b : Binding Tree) (d : Binding (List Side)) → SameName argument b d → There (λ n. name_meaning source (further_of source n) name b) (name_code source codes_further name d)
-    unfolding There
-    name_there name b d (to_tree path tree e) = path_there (ToRest ∷ path) (Value tree) (ap found_meaning e)
-    name_there name b d (to_no_step path e) = path_there (ToRest ∷ path) Failed (ap found_meaning e)
-    name_there name b d no_path = failing_there
-    name_there name b d (expression e scope there there' s c) = λ m le. goes m le e scope s there there' argument c
-    name_there name b d nothing = constant_there (constant_named name source.constants)
-
-    operator_there : (operands : Operands) (env : Environment Tree) (codes : List Tree) (code : ℕ) → (code == 1) ≡ false → OperandsThere operands env codes → There (operands_say operands env (λ n. operate n code)) (operator_code code codes)
-    unfolding There OperandsThere
+    operator_there : (operands : Operands) (env : Environment Tree) (codes : List Tree) (code : ℕ) → (code == 1) ≡ false → TreesThere operands env codes → ThereTree (operands_say operands env (λ n. operate n code)) (operator_code code codes)
+    unfolding ThereTree TreesThere
     operator_there operands env codes code one p zero le = (0, out _)
     operator_there operands env codes code one p (suc m) le =
-        covered_from _ _ _ (refines_equal _ _ (plain_operator m code codes (Pair table argument) one))
+        covered_from _ _ _ (refines_equal _ _ (plain_operator m code codes here one))
         (p m (omega arith) (plain_apply (plain m) (code ∷ [])) (λ n. operate n code) (operate_rises code) (operate_covered m code))
 
-    list_there : (operands : Operands) (env : Environment Tree) (codes : List Tree) → OperandsThere operands env codes → There (list_says_by operands env) (list_code codes)
-    unfolding There OperandsThere
-    list_there operands env codes p m le =
-        covered_from _ _ _ (list_says m codes (Pair table argument))
-        (p m le (λ values. Value (list_tree values)) (λ n values. Value (list_tree values)) (λ values. rises_same (Value (list_tree values))) (λ values. (0, same (Value (list_tree values)))))
-
-    body_covered : (f : Definition) (x : Meaning) (env : Environment Tree) → Covered x (body_says source meaning_within f env) → Covered x (body_says source further_of f env)
-    body_covered f x env c = (suc c.0, c.1)
-
-    function_there : (operands : Operands) (env : Environment Tree) (codes : List Tree) (f : Option Definition) (i : Option ℕ) → Located source.functions f i → OperandsThere operands env codes →
-        There (operands_say operands env (λ n. function_call source (further_of source n) f)) (function_call_code i codes)
-    unfolding There
-    function_there operands env codes f k (here g i at) p zero le = (0, out _)
-    function_there operands env codes f k (here g i at) p (suc m) le =
-        let it = calls g i at in
-        let go = λ (n : ℕ) (t : Tree). body_says source further_of g (function_environment g.params t) n in
-        covered_by _ _ _ (λ n. refines_equal _ _ (sym (natural source n (further_of source n) operands env (λ values. Value (list_tree values)) (go n))))
-        (covered_from _ _ _ (call_says table argument m i codes it.0 it.1)
-        (covered_then (plain m (list_code codes) (Pair table argument)) (list_says_by operands env) (λ t. plain m it.0 (Pair table t)) go
-        (list_rises operands env) (λ t. body_rises g (function_environment g.params t))
-        (list_there operands env codes p m (omega arith))
-        (λ t. body_covered g _ (function_environment g.params t) (it.2 m (omega arith) t))))
-    function_there operands env codes f k nowhere p zero le = (0, out _)
-    function_there operands env codes f k nowhere p (suc m) le =
-        covered_by _ _ _ (λ n. refines_equal _ _ (sym (natural source n (further_of source n) operands env (λ values. Value (list_tree values)) (λ t. Failed))))
-        (covered_from _ _ _ (refines_equal _ _ (unknown_call m (list_code codes) (Pair table argument)))
-        (covered_then (plain m (list_code codes) (Pair table argument)) (list_says_by operands env) (λ t. Failed) (λ n t. Failed)
-        (list_rises operands env) (λ t. rises_same Failed) (list_there operands env codes p m (omega arith)) (λ t. (0, same Failed))))
-
-    body_there : (f : Definition) (env : Environment Tree) (names : Names) → Corresponds argument env names → (read : Judged Expression) → body_of source f.params f.body ≡ read →
-        There (λ n. body_meaning (further_of source n) read env) (body_code codes_further read names)
-    unfolding There
-    body_there f env names c (Ok e) is = λ m le. goes m le e (module_scope source f.params) (is_sound (module_scope source f.params) f.body e is) env names argument c
-    body_there f env names c (Err first) is = failing_there
-
-    inline_there : (operands : Operands) → AreSound scope operands → (env : Environment Tree) (names : Names) → Corresponds argument env names → (f : Option Definition) →
-        There (λ n. inline_call source (further_of source n) operands env f) (inline_code source codes_further operands names f)
-    inline_there operands s env names c None = failing_there
-    inline_there operands s env names c (Some f) =
-        body_there f (inline_environment f.params operands env) (inline_environment f.params operands names) (inline_corresponds argument scope f.params operands s env names c) (body_of source f.params f.body) refl
-
-    more_there : (first : Expression) (more : Operands) (env : Environment Tree) (code : Tree) (codes : List Tree) → There (says first env) code → OperandsThere more env codes → OperandsThere (Operand first more) env (code ∷ codes)
-    unfolding There OperandsThere
-    more_there first more env code codes h p = λ m le go go' rises covers.
-        p m le (λ values. if_value (plain m code (Pair table argument)) (λ v. go (v ∷ values)))
-        (λ n values. if_value (says first env n) (λ value. go' n (value ∷ values)))
-        (λ values. rises_then (says first env) (λ n v. go' n (v ∷ values)) (says_rises first env) (λ v. rises (v ∷ values)))
-        (λ values. covered_then (plain m code (Pair table argument)) (says first env) (λ v. go (v ∷ values)) (λ n v. go' n (v ∷ values)) (says_rises first env) (λ v. rises (v ∷ values)) (h m le) (λ v. covers (v ∷ values)))
+    two_there : (a b : ℕ → Meaning) → Rises a → Rises b → (ca cb : Tree) → ThereTree a ca → ThereTree b cb → ThereTree (λ n. if_value (b n) (λ y. if_value (a n) (λ x. Value (Pair x y)))) (pair_code ca cb)
+    unfolding ThereTree
+    two_there a b ra rb ca cb p q zero le = (0, out _)
+    two_there a b ra rb ca cb p q (suc m) le =
+        covered_from _ _ _ (refines_equal _ _ (plain_pair m ca cb here))
+        (covered_then (plain m cb here) b (λ y. if_value (plain m ca here) (λ x. Value (Pair x y))) (λ n y. if_value (a n) (λ x. Value (Pair x y)))
+        rb (λ y. rises_then a (λ n x. Value (Pair x y)) ra (λ x. rises_same (Value (Pair x y)))) (q m (omega arith))
+        (λ y. covered_then (plain m ca here) a (λ x. Value (Pair x y)) (λ n x. Value (Pair x y)) ra (λ x. rises_same (Value (Pair x y))) (p m (omega arith)) (λ x. (0, same (Value (Pair x y))))))
 
     abbrev chosen_says : Tree → (a b : Expression) → Environment Tree → ℕ → Meaning
     chosen_says v a b env n = chosen v (expression_meaning source n (further_of source n) a) (expression_meaning source n (further_of source n) b) env
@@ -219,51 +164,265 @@ module _ (source : Module) (table : Tree) (most : ℕ)
     chosen_rises (Atom (x ∷ bytes)) a b env = says_rises a env
     chosen_rises (Pair first rest) a b env = says_rises a env
 
-    chosen_there : (v : Tree) (a b : Expression) (env : Environment Tree) (ca cb : Tree) → There (says a env) ca → There (says b env) cb → There (chosen_says v a b env) (picked v ca cb)
+    chosen_there : (v : Tree) (a b : Expression) (env : Environment Tree) (ca cb : Tree) → ThereTree (says a env) ca → ThereTree (says b env) cb → ThereTree (chosen_says v a b env) (picked v ca cb)
     chosen_there (Atom []) a b env ca cb p q = q
     chosen_there (Atom (x ∷ bytes)) a b env ca cb p q = p
     chosen_there (Pair first rest) a b env ca cb p q = p
 
-    choice_there : (t a b : Expression) (env : Environment Tree) (ct ca cb : Tree) → There (says t env) ct → There (says a env) ca → There (says b env) cb → There (λ n. if_value (says t env n) (λ v. chosen_says v a b env n)) (if_code ct ca cb)
-    unfolding There
-    choice_there t a b env ct ca cb p q r zero le = (0, out _)
-    choice_there t a b env ct ca cb p q r (suc m) le =
-        covered_from _ _ _ (if_says m ct ca cb (Pair table argument))
-        (covered_then (plain m ct (Pair table argument)) (says t env) (λ v. plain m (picked v ca cb) (Pair table argument)) (λ n v. chosen_says v a b env n)
+    abbrev choice_says : (t a b : Expression) → Environment Tree → ℕ → Meaning
+    choice_says t a b env n = if_value (says t env n) (λ v. chosen_says v a b env n)
+
+    if_there : (t a b : Expression) (env : Environment Tree) (ct ca cb : Tree) → ThereTree (says t env) ct → ThereTree (says a env) ca → ThereTree (says b env) cb → ThereTree (choice_says t a b env) (if_code ct ca cb)
+    unfolding ThereTree
+    if_there t a b env ct ca cb p q r zero le = (0, out _)
+    if_there t a b env ct ca cb p q r (suc m) le =
+        covered_from _ _ _ (if_says m ct ca cb here)
+        (covered_then (plain m ct here) (says t env) (λ v. plain m (picked v ca cb) here) (λ n v. chosen_says v a b env n)
         (says_rises t env) (λ v. chosen_rises v a b env) (p m (omega arith)) (λ v. chosen_there v a b env ca cb q r m (omega arith)))
 
-    both_there : (a b : Template) (env : Environment Tree) (ca cb : Tree) → There (template_says a env) ca → There (template_says b env) cb →
-        There (λ n. if_value (template_says b env n) (λ y. if_value (template_says a env n) (λ x. Value (Pair x y)))) (pair_code ca cb)
-    unfolding There
-    both_there a b env ca cb p q zero le = (0, out _)
-    both_there a b env ca cb p q (suc m) le =
-        covered_from _ _ _ (refines_equal _ _ (plain_pair m ca cb (Pair table argument)))
-        (covered_then (plain m cb (Pair table argument)) (template_says b env) (λ y. if_value (plain m ca (Pair table argument)) (λ x. Value (Pair x y))) (λ n y. if_value (template_says a env n) (λ x. Value (Pair x y)))
-        (template_rises b env) (λ y. rises_then (template_says a env) (λ n x. Value (Pair x y)) (template_rises a env) (λ x. rises_same (Value (Pair x y)))) (q m (omega arith))
-        (λ y. covered_then (plain m ca (Pair table argument)) (template_says a env) (λ x. Value (Pair x y)) (λ n x. Value (Pair x y)) (template_rises a env) (λ x. rises_same (Value (Pair x y))) (p m (omega arith)) (λ x. (0, same (Value (Pair x y))))))
+    -- ---- codes
 
-    none_there : (env : Environment Tree) → OperandsThere NoMore env []
-    unfolding OperandsThere
+    unfoldable pub There : (ℕ → Meaning) → Code → Type 0
+    There y code = (m : ℕ) → m ≤ most → Covered (plain m (tree_of code) here) y
+
+    tree_there : (y : ℕ → Meaning) (code : Code) → There y code → ThereTree y (tree_of code)
+    unfolding There ThereTree
+    tree_there y code h = h
+
+    other_there : (y : ℕ → Meaning) (tree : Tree) → ThereTree y tree → There y (Other tree)
+    unfolding There ThereTree
+    other_there y tree h = h
+
+    fails_there : There (λ n. Failed) fails
+    unfolding There
+    fails_there m le = (0, failing_refines m here)
+
+    value_there : (tree : Tree) → There (λ n. Value tree) (codes.Constant tree)
+    unfolding There
+    value_there tree m le = (0, constant_says m tree here)
+
+    -- What a constant stands for means the constant.
+    value_of : (y : ℕ → Meaning) (tree : Tree) (m : ℕ) → suc m ≤ most → There y (codes.Constant tree) → Covered (Value tree) y
+    unfolding There
+    value_of y tree m le h = covered_same _ _ _ (sym (constant_is m tree here)) (h (suc m) le)
+
+    two_constants_there : (a b : ℕ → Meaning) → Rises a → Rises b → (x y : Tree) → There a (codes.Constant x) → There b (codes.Constant y) → There (λ n. if_value (b n) (λ y. if_value (a n) (λ x. Value (Pair x y)))) (codes.Constant (Pair x y))
+    unfolding There
+    two_constants_there a b ra rb x y p q zero le = (0, out _)
+    two_constants_there a b ra rb x y p q (suc m) le =
+        covered_then (Value y) b (λ vb. if_value (Value x) (λ va. Value (Pair va vb))) (λ n vb. if_value (a n) (λ va. Value (Pair va vb)))
+        rb (λ vb. rises_then a (λ n va. Value (Pair va vb)) ra (λ va. rises_same (Value (Pair va vb)))) (value_of b y m le q)
+        (λ vb. covered_then (Value x) a (λ va. Value (Pair va vb)) (λ n va. Value (Pair va vb)) ra (λ va. rises_same (Value (Pair va vb))) (value_of a x m le p) (λ va. (0, same (Value (Pair va vb)))))
+
+    pair_there : (a b : ℕ → Meaning) → Rises a → Rises b → (ca cb : Code) → There a ca → There b cb → There (λ n. if_value (b n) (λ y. if_value (a n) (λ x. Value (Pair x y)))) (pair_of ca cb)
+    pair_there a b ra rb (codes.Constant x) (codes.Constant y) p q = two_constants_there a b ra rb x y p q
+    pair_there a b ra rb (codes.Constant x) (Path path) p q = other_there _ _ (two_there a b ra rb (constant_tree x) (path_code path) (tree_there a _ p) (tree_there b _ q))
+    pair_there a b ra rb (codes.Constant x) (Other tree) p q = other_there _ _ (two_there a b ra rb (constant_tree x) tree (tree_there a _ p) (tree_there b _ q))
+    pair_there a b ra rb (Path path) cb p q = other_there _ _ (two_there a b ra rb (path_code path) (tree_of cb) (tree_there a _ p) (tree_there b _ q))
+    pair_there a b ra rb (Other tree) cb p q = other_there _ _ (two_there a b ra rb tree (tree_of cb) (tree_there a _ p) (tree_there b _ q))
+
+    picked_value : (v : Tree) (a b : Expression) (env : Environment Tree) (x y : Tree) → Covered (Value x) (says a env) → Covered (Value y) (says b env) → Covered (Value (picked v x y)) (chosen_says v a b env)
+    picked_value (Atom []) a b env x y p q = q
+    picked_value (Atom (z ∷ bytes)) a b env x y p q = p
+    picked_value (Pair first rest) a b env x y p q = p
+
+    constants_there : (t a b : Expression) (env : Environment Tree) (ct x y : Tree) → ThereTree (says t env) ct → There (says a env) (codes.Constant x) → There (says b env) (codes.Constant y) →
+        ThereTree (choice_says t a b env) (operator_code 3 (ct ∷ constant_tree x ∷ constant_tree y ∷ []))
+    unfolding ThereTree
+    constants_there t a b env ct x y p q r zero le = (0, out _)
+    constants_there t a b env ct x y p q r (suc zero) le = (0, refines_trans _ _ _ (refines_equal _ _ (plain_operator 0 3 (ct ∷ constant_tree x ∷ constant_tree y ∷ []) here refl)) (out _))
+    constants_there t a b env ct x y p q r (suc (suc m)) le =
+        covered_from _ _ _ (refines_equal _ _ (constant_choice m ct x y here))
+        (covered_then (plain (suc m) ct here) (says t env) (λ v. Value (picked v x y)) (λ n v. chosen_says v a b env n)
+        (says_rises t env) (λ v. chosen_rises v a b env) (p (suc m) (omega arith)) (λ v. picked_value v a b env x y (value_of (says a env) x m (omega arith) q) (value_of (says b env) y m (omega arith) r)))
+
+    choice_there : (t a b : Expression) (env : Environment Tree) (ct ca cb : Code) → There (says t env) ct → There (says a env) ca → There (says b env) cb → There (choice_says t a b env) (choice_of ct ca cb)
+    choice_there t a b env ct (codes.Constant x) (codes.Constant y) p q r = other_there _ _ (constants_there t a b env (tree_of ct) x y (tree_there _ ct p) q r)
+    choice_there t a b env ct (codes.Constant x) (Path path) p q r = other_there _ _ (if_there t a b env (tree_of ct) (constant_tree x) (path_code path) (tree_there _ ct p) (tree_there _ _ q) (tree_there _ _ r))
+    choice_there t a b env ct (codes.Constant x) (Other tree) p q r = other_there _ _ (if_there t a b env (tree_of ct) (constant_tree x) tree (tree_there _ ct p) (tree_there _ _ q) (tree_there _ _ r))
+    choice_there t a b env ct (Path path) cb p q r = other_there _ _ (if_there t a b env (tree_of ct) (path_code path) (tree_of cb) (tree_there _ ct p) (tree_there _ _ q) (tree_there _ _ r))
+    choice_there t a b env ct (Other tree) cb p q r = other_there _ _ (if_there t a b env (tree_of ct) tree (tree_of cb) (tree_there _ ct p) (tree_there _ _ q) (tree_there _ _ r))
+
+    path_there : (path : List Side) (x : Meaning) → found_meaning (tree_at path here) ≡ x → There (λ n. x) (Path path)
+    unfolding There
+    path_there path x e m le = (0, subst (Refines (plain m (path_code path) here)) e (path_refines m path here))
+
+    constant_there : (found : Option modules.Constant) → There (λ n. constant_meaning found) (constant_code found)
+    constant_there None = fails_there
+    constant_there (Some constant) = value_there constant.value
+
+    name_there : (name : List ℕ) (b : Binding Tree) (d : Binding (List Side)) → SameName argument b d → There (λ n. name_meaning source (further_of source n) name b) (name_code source codes_further name d)
+    unfolding There
+    name_there name b d (to_tree path tree e) = path_there (ToRest ∷ path) (Value tree) (ap found_meaning e)
+    name_there name b d (to_no_step path e) = path_there (ToRest ∷ path) Failed (ap found_meaning e)
+    name_there name b d no_path = fails_there
+    name_there name b d (expression e scope there there' s c) = λ m le. goes m le e scope s there there' argument c
+    name_there name b d nothing = constant_there (constant_named name source.constants)
+
+    -- ---- operands
+
+    -- Each operand has its code.
+    AllThere : Operands → Environment Tree → List Code → Type 0
+    AllThere NoMore env [] = Unit {0}
+    AllThere NoMore env (code ∷ codes) = ⊥
+    AllThere (Operand first more) env [] = ⊥
+    AllThere (Operand first more) env (code ∷ codes) = There (says first env) code × AllThere more env codes
+
+    none_there : (env : Environment Tree) → TreesThere NoMore env []
+    unfolding TreesThere
     none_there env = λ m le go go' rises covers. covers []
 
+    more_there : (first : Expression) (more : Operands) (env : Environment Tree) (code : Tree) (codes : List Tree) → ThereTree (says first env) code → TreesThere more env codes → TreesThere (Operand first more) env (code ∷ codes)
+    unfolding ThereTree TreesThere
+    more_there first more env code codes h p = λ m le go go' rises covers.
+        p m le (λ values. if_value (plain m code here) (λ v. go (v ∷ values)))
+        (λ n values. if_value (says first env n) (λ value. go' n (value ∷ values)))
+        (λ values. rises_then (says first env) (λ n v. go' n (v ∷ values)) (says_rises first env) (λ v. rises (v ∷ values)))
+        (λ values. covered_then (plain m code here) (says first env) (λ v. go (v ∷ values)) (λ n v. go' n (v ∷ values)) (says_rises first env) (λ v. rises (v ∷ values)) (h m le) (λ v. covers (v ∷ values)))
+
+    trees_there : (operands : Operands) (env : Environment Tree) (codes : List Code) → AllThere operands env codes → TreesThere operands env (map tree_of codes)
+    unfolding AllThere
+    trees_there NoMore env [] h = none_there env
+    trees_there NoMore env (code ∷ codes) h = elim h [ ]
+    trees_there (Operand first more) env [] h = elim h [ ]
+    trees_there (Operand first more) env (code ∷ codes) h = more_there first more env (tree_of code) (map tree_of codes) (tree_there _ code h.0) (trees_there more env codes h.1)
+
+    listed_there : (first : Expression) (more : Operands) (env : Environment Tree) (made : Code) → There (λ n. if_value (list_says_by more env n) (λ t. if_value (says first env n) (λ v. Value (Pair v t)))) made → There (list_says_by (Operand first more) env) made
+    unfolding There
+    listed_there first more env made h m le =
+        covered_by _ _ _ (λ n. refines_equal _ _ (sym (natural source n (further_of source n) more env (λ values. Value (list_tree values)) (λ t. if_value (says first env n) (λ v. Value (Pair v t)))))) (h m le)
+
+    list_there : (operands : Operands) (env : Environment Tree) (codes : List Code) → AllThere operands env codes → There (list_says_by operands env) (list_of codes)
+    unfolding AllThere
+    list_there NoMore env [] h = value_there nil
+    list_there NoMore env (code ∷ codes) h = elim h [ ]
+    list_there (Operand first more) env [] h = elim h [ ]
+    list_there (Operand first more) env (code ∷ codes) h =
+        listed_there first more env (list_of (code ∷ codes)) (pair_there (says first env) (list_says_by more env) (says_rises first env) (list_rises more env) code (list_of codes) h.0 (list_there more env codes h.1))
+
+    longer_there : (side : Side) (first : Expression) (env : Environment Tree) (path : List Side) → There (says first env) (Path path) → There (λ n. if_value (says first env n) (λ v. operate n (step_code side) (v ∷ []))) (Path (path ++ side ∷ []))
+    unfolding There
+    longer_there side first env path h zero le = (0, out _)
+    longer_there side first env path h (suc m) le =
+        let found = found_meaning (tree_at path here) in
+        covered_same (if_value found (λ v. operate 0 (step_code side) (v ∷ []))) (plain (suc m) (path_code (path ++ side ∷ [])) here) _ (plain_path m (path ++ side ∷ []) here ∙ sym (found_step 0 side path here))
+        (covered_then found (says first env) (λ v. operate 0 (step_code side) (v ∷ [])) (λ n v. operate n (step_code side) (v ∷ [])) (says_rises first env) (λ v. operate_rises (step_code side) (v ∷ []))
+        (covered_same (plain (suc m) (path_code path) here) found (says first env) (sym (plain_path m path here)) (h (suc m) le)) (λ v. (0, same (operate 0 (step_code side) (v ∷ [])))))
+
+    step_there : (side : Side) → (step_code side == 1) ≡ false → (first : Expression) (env : Environment Tree) (code : Code) → There (says first env) code →
+        There (λ n. if_value (says first env n) (λ v. operate n (step_code side) (v ∷ []))) (step_of side code)
+    unfolding AllThere
+    step_there side one first env (Path path) h = longer_there side first env path h
+    step_there side one first env (codes.Constant tree) h =
+        other_there _ _ (operator_there (Operand first NoMore) env (constant_tree tree ∷ []) (step_code side) one (trees_there (Operand first NoMore) env (codes.Constant tree ∷ []) (h, tt)))
+    step_there side one first env (Other tree) h =
+        other_there _ _ (operator_there (Operand first NoMore) env (tree ∷ []) (step_code side) one (trees_there (Operand first NoMore) env (Other tree ∷ []) (h, tt)))
+
+    one_there : (code : ℕ) → (code == 1) ≡ false → (first : Expression) (env : Environment Tree) (c : Code) → There (says first env) c → (f r : Bool) → (code == 5) ≡ f → (code == 6) ≡ r →
+        There (λ n. if_value (says first env n) (λ v. operate n code (v ∷ []))) (cond f (step_of ToFirst c) (cond r (step_of ToRest c) (Other (operator_code code (tree_of c ∷ [])))))
+    unfolding AllThere
+    one_there code one first env c h true r is isnt =
+        subst (λ code. There (λ n. if_value (says first env n) (λ v. operate n code (v ∷ []))) (step_of ToFirst c)) (sym (eqb-true code 5 is)) (step_there ToFirst refl first env c h)
+    one_there code one first env c h false true isnt is =
+        subst (λ code. There (λ n. if_value (says first env n) (λ v. operate n code (v ∷ []))) (step_of ToRest c)) (sym (eqb-true code 6 is)) (step_there ToRest refl first env c h)
+    one_there code one first env c h false false isnt neither =
+        other_there _ _ (operator_there (Operand first NoMore) env (tree_of c ∷ []) code one (trees_there (Operand first NoMore) env (c ∷ []) (h, tt)))
+
+    pairs_there : (code : ℕ) → (code == 1) ≡ false → (first second : Expression) (env : Environment Tree) (c d : Code) → There (says first env) c → There (says second env) d →
+        (is : Bool) → (code == 4) ≡ is → There (operands_say (Operand first (Operand second NoMore)) env (λ n. operate n code)) (cond is (pair_of c d) (Other (operator_code code (tree_of c ∷ tree_of d ∷ []))))
+    unfolding AllThere
+    pairs_there code one first second env c d h k true is =
+        subst (λ code. There (operands_say (Operand first (Operand second NoMore)) env (λ n. operate n code)) (pair_of c d)) (sym (eqb-true code 4 is))
+        (subst (λ go. There (operands_say (Operand first (Operand second NoMore)) env go) (pair_of c d)) (λ i n values. sym (pair_go n values) i)
+        (pair_there (says first env) (says second env) (says_rises first env) (says_rises second env) c d h k))
+      where
+        made : ℕ → List Tree → Meaning
+        made n (a ∷ b ∷ []) = Value (Pair a b)
+        made n values = operate n 4 values
+
+        pair_go : (n : ℕ) (values : List Tree) → operate n 4 values ≡ made n values
+        pair_go n [] = refl
+        pair_go n (a ∷ []) = refl
+        pair_go n (a ∷ b ∷ []) = pair_operates n a b
+        pair_go n (a ∷ b ∷ c ∷ more) = refl
+    pairs_there code one first second env c d h k false is =
+        other_there _ _ (operator_there (Operand first (Operand second NoMore)) env (tree_of c ∷ tree_of d ∷ []) code one (trees_there (Operand first (Operand second NoMore)) env (c ∷ d ∷ []) (h, (k, tt))))
+
+    operation_there : (operands : Operands) (env : Environment Tree) (codes : List Code) (code : ℕ) → (code == 1) ≡ false → AllThere operands env codes → There (operands_say operands env (λ n. operate n code)) (operation_of code codes)
+    unfolding AllThere
+    operation_there NoMore env [] code one h = other_there _ _ (operator_there NoMore env [] code one (trees_there NoMore env [] h))
+    operation_there NoMore env (c ∷ codes) code one h = elim h [ ]
+    operation_there (Operand first more) env [] code one h = elim h [ ]
+    operation_there (Operand first NoMore) env (c ∷ []) code one h = one_there code one first env c h.0 (code == 5) (code == 6) refl refl
+    operation_there (Operand first NoMore) env (c ∷ d ∷ codes) code one h = elim h.1 [ ]
+    operation_there (Operand first (Operand second more)) env (c ∷ []) code one h = elim h.1 [ ]
+    operation_there (Operand first (Operand second NoMore)) env (c ∷ d ∷ []) code one h = pairs_there code one first second env c d h.0 h.1.0 (code == 4) refl
+    operation_there (Operand first (Operand second NoMore)) env (c ∷ d ∷ e ∷ codes) code one h = elim h.1.1 [ ]
+    operation_there (Operand first (Operand second (Operand third more))) env (c ∷ d ∷ []) code one h = elim h.1.1 [ ]
+    operation_there (Operand first (Operand second (Operand third more))) env (c ∷ d ∷ e ∷ codes) code one h =
+        other_there _ _ (operator_there (Operand first (Operand second (Operand third more))) env (map tree_of (c ∷ d ∷ e ∷ codes)) code one (trees_there (Operand first (Operand second (Operand third more))) env (c ∷ d ∷ e ∷ codes) h))
+
+    -- ---- calls
+
+    body_covered : (f : Definition) (x : Meaning) (env : Environment Tree) → Covered x (body_says source meaning_within f env) → Covered x (body_says source further_of f env)
+    body_covered f x env c = (suc c.0, c.1)
+
+    function_there : (operands : Operands) (env : Environment Tree) (codes : List Code) (f : Option Definition) (i : Option ℕ) → Located source.functions f i → AllThere operands env codes →
+        There (λ n. operands_meaning source n (further_of source n) operands env (function_call source (further_of source n) f)) (call_of i codes)
+    unfolding There
+    function_there operands env codes f k (corresponding.here g i at) p zero le = (0, out _)
+    function_there operands env codes f k (corresponding.here g i at) p (suc m) le =
+        let it = calls g i at in
+        let list = tree_of (list_of codes) in
+        let go = λ (n : ℕ) (t : Tree). body_says source further_of g (function_environment g.params t) n in
+        covered_by _ _ _ (λ n. refines_equal _ _ (sym (natural source n (further_of source n) operands env (λ values. Value (list_tree values)) (go n))))
+        (covered_from _ _ _ (call_says table argument m i list it.0 it.1)
+        (covered_then (plain m list here) (list_says_by operands env) (λ t. plain m it.0 (Pair table t)) go
+        (list_rises operands env) (λ t. body_rises g (function_environment g.params t))
+        (list_there operands env codes p m (omega arith))
+        (λ t. body_covered g _ (function_environment g.params t) (it.2 m (omega arith) t))))
+    function_there operands env codes f k nowhere p zero le = (0, out _)
+    function_there operands env codes f k nowhere p (suc m) le =
+        let list = tree_of (list_of codes) in
+        covered_by _ _ _ (λ n. refines_equal _ _ (sym (natural source n (further_of source n) operands env (λ values. Value (list_tree values)) (λ t. Failed))))
+        (covered_from _ _ _ (refines_equal _ _ (unknown_call m list here))
+        (covered_then (plain m list here) (list_says_by operands env) (λ t. Failed) (λ n t. Failed)
+        (list_rises operands env) (λ t. rises_same Failed) (list_there operands env codes p m (omega arith)) (λ t. (0, same Failed))))
+
+    body_there : (f : Definition) (env : Environment Tree) (names : Names) → Corresponds argument env names → (read : Judged Expression) → body_of source f.params f.body ≡ read →
+        There (λ n. body_meaning (further_of source n) read env) (body_code codes_further read names)
+    unfolding There
+    body_there f env names c (Ok e) is = λ m le. goes m le e (module_scope source f.params) (is_sound (module_scope source f.params) f.body e is) env names argument c
+    body_there f env names c (Err first) is = fails_there
+
+    inline_there : (operands : Operands) → AreSound scope operands → (env : Environment Tree) (names : Names) → Corresponds argument env names → (f : Option Definition) →
+        There (λ n. inline_call source (further_of source n) operands env f) (inline_code source codes_further operands names f)
+    inline_there operands s env names c None = fails_there
+    inline_there operands s env names c (Some f) =
+        body_there f (inline_environment f.params operands env) (inline_environment f.params operands names) (inline_corresponds argument scope f.params operands s env names c) (body_of source f.params f.body) refl
+
     mutual
+      unfolding AllThere
+
       pub expression_there : (e : Expression) → IsSound scope e → (env : Environment Tree) (names : Names) → Corresponds argument env names → There (says e env) (expression_code source codes_further e names)
-      expression_there (Literal tree) s env names c = quote_there tree
+      expression_there (Literal tree) s env names c = value_there tree
       expression_there (Name name) s env names c = name_there name _ _ (same_name argument name env names c)
       expression_there (Choice condition second third) s env names c =
-          choice_there condition second third env _ _ _ (expression_there condition s.0 env names c) (expression_there second s.1 env names c) (expression_there third s.2 env names c)
+          choice_there condition second third env (expression_code source codes_further condition names) (expression_code source codes_further second names) (expression_code source codes_further third names)
+          (expression_there condition s.0 env names c) (expression_there second s.1 env names c) (expression_there third s.2 env names c)
       expression_there (Listing operands) s env names c = list_there operands env (operand_codes source codes_further operands names) (operands_there operands s env names c)
-      expression_there (Operation code operands) s env names c = operator_there operands env (operand_codes source codes_further operands names) code s.0 (operands_there operands s.1 env names c)
+      expression_there (Operation code operands) s env names c = operation_there operands env (operand_codes source codes_further operands names) code s.0 (operands_there operands s.1 env names c)
       expression_there (FunctionCall name operands) s env names c =
           function_there operands env (operand_codes source codes_further operands names) (definition_named name source.functions) (index_of name source.functions) (located name source.functions) (operands_there operands s.1 env names c)
       expression_there (InlineCall name operands) s env names c = inline_there operands s.1 env names c (definition_named name source.inlines)
       expression_there (Filled template) s env names c = template_there template s env names c
 
-      operands_there : (operands : Operands) → AreSound scope operands → (env : Environment Tree) (names : Names) → Corresponds argument env names → OperandsThere operands env (operand_codes source codes_further operands names)
-      operands_there NoMore s env names c = none_there env
-      operands_there (Operand first more) s env names c = more_there first more env _ _ (expression_there first s.0 env names c) (operands_there more s.1 env names c)
+      operands_there : (operands : Operands) → AreSound scope operands → (env : Environment Tree) (names : Names) → Corresponds argument env names → AllThere operands env (operand_codes source codes_further operands names)
+      operands_there NoMore s env names c = tt
+      operands_there (Operand first more) s env names c = (expression_there first s.0 env names c, operands_there more s.1 env names c)
 
       template_there : (t : Template) → IsSoundTemplate scope t → (env : Environment Tree) (names : Names) → Corresponds argument env names → There (template_says t env) (template_code source codes_further t names)
-      template_there (Plain tree) s env names c = quote_there tree
-      template_there (Both first rest) s env names c = both_there first rest env _ _ (template_there first s.0 env names c) (template_there rest s.1 env names c)
+      template_there (Plain tree) s env names c = value_there tree
+      template_there (Both first rest) s env names c =
+          pair_there (template_says first env) (template_says rest env) (template_rises first env) (template_rises rest env) (template_code source codes_further first names) (template_code source codes_further rest names) (template_there first s.0 env names c) (template_there rest s.1 env names c)
       template_there (Unquoted e) s env names c = expression_there e s env names c

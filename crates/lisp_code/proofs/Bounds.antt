@@ -5,7 +5,8 @@ use Rattle.std.proofs.lemmas.List.Sums.{sum_by-cons}
 use Rattle.clvm_spec.specs.Tree.{Tree, list_tree}
 use Rattle.clvm_spec.specs.Currying.{quote_of}
 use Rattle.lisp_spec.specs.Forms.{Form}
-use Rattle.lisp_spec.specs.Modules.{Module, Definition, Constant, definition_named, constant_named}
+use Rattle.lisp_spec.specs.Modules as modules
+use Rattle.lisp_spec.specs.Modules.{Module, Definition, definition_named, constant_named}
 use Rattle.lisp_spec.specs.ModuleFaults.{Judged, is_among}
 use Rattle.lisp_spec.specs.ModuleLaws.{IsBound, AreBound}
 use Rattle.lisp_spec.specs.Parameters.{Side, ToFirst, ToRest, Parameter, parameters, path_of}
@@ -18,15 +19,16 @@ use Rattle.lisp_spec.specs.Cycles.{inlines_called, called_by_operands, called_by
 use Rattle.lisp_spec.specs.CycleLaws.{HasNoCycle, weight_of}
 use Rattle.lisp_spec.proofs.NestingProofs.{Shallow, shallow, weight_is_its_step}
 use Rattle.lisp_code.specs.Names.{Names, function_names}
-use Rattle.lisp_code.specs.Pieces.{operator_code, path_code, pair_code, list_code, if_code}
-use Rattle.lisp_code.specs.Code.{Codes, index_of, function_call_code, constant_code, name_code, body_code, inline_code, expression_code, operand_codes, template_code}
+use Rattle.lisp_code.specs.Pieces.{path_code, pair_code}
+use Rattle.lisp_code.specs.Codes.{Code, Other, constant_tree, tree_of, pair_of, list_of, operation_of, choice_of, call_of}
+use Rattle.lisp_code.specs.Code.{Codes, index_of, constant_code, name_code, body_code, inline_code, expression_code, operand_codes, template_code}
 use Rattle.lisp_code.proofs.Depths.{looping, code_within, function_code, table_code, module_code}
 use Rattle.lisp_code.proofs.Settling.{among_front, among_behind, among_first, called_shallow}
-use Rattle.lisp_code.proofs.Lengths.{size, size_pair, size_tree, size_path, size_quote, size_failing, size_one_operand, size_two, size_looping, size_if, spare_sizes, size_list, size_operator, index_below, size_call}
+use Rattle.lisp_code.proofs.Lengths.{size, size_pair, size_tree, size_path, size_quote, size_failing, size_two, size_looping, code_size, spare_sizes, size_constant, size_pair_of, size_list_of, size_operation_of, size_choice_of, size_call_of}
 
 -- what a body's code goes on with: code for one inline less, or none
 abbrev pub further_code : Module → ℕ → Codes
-further_code source zero = λ e names. looping
+further_code source zero = λ e names. Other looping
 further_code source (suc b) = code_within source b
 
 pub code_is : (source : Module) (b : ℕ) (e : Expression) (names : Names) → code_within source b e names ≡ expression_code source (further_code source b) e names
@@ -35,10 +37,10 @@ code_is source (suc b) e names = refl
 
 module _ (source : Module) (k : ℕ) (eighth : length source.functions / 8 ≤ k) where
   abbrev CodeFits : Expression → Names → ℕ → Type 0
-  CodeFits e names w = (b : ℕ) → size (expression_code source (further_code source b) e names) + 8 ≤ (64 + k) * w
+  CodeFits e names w = (b : ℕ) → code_size (expression_code source (further_code source b) e names) + 8 ≤ (64 + k) * w
 
   abbrev FurtherFits : Expression → Names → ℕ → Type 0
-  FurtherFits e names w = (b : ℕ) → size (further_code source b e names) + 8 ≤ (64 + k) * w
+  FurtherFits e names w = (b : ℕ) → code_size (further_code source b e names) + 8 ≤ (64 + k) * w
 
   some_weight : (s w : ℕ) → s + 8 ≤ (64 + k) * w → 64 ≤ (64 + k) * w
   some_weight s zero h = absurd (omega arith)
@@ -46,7 +48,7 @@ module _ (source : Module) (k : ℕ) (eighth : length source.functions / 8 ≤ k
 
   further_fits : (e : Expression) (names : Names) (w : ℕ) → CodeFits e names w → FurtherFits e names w
   further_fits e names w fits zero = let h = some_weight _ w (fits 0) in let l = size_looping in omega arith
-  further_fits e names w fits (suc b) = subst (λ code. size code + 8 ≤ (64 + k) * w) (sym (code_is source b e names)) (fits b)
+  further_fits e names w fits (suc b) = subst (λ code. code_size code + 8 ≤ (64 + k) * w) (sym (code_is source b e names)) (fits b)
 
   ExpressionFits : Option Expression → Names → ℕ → Type 0
   ExpressionFits None names w = 1 ≤ w
@@ -100,46 +102,45 @@ module _ (source : Module) (k : ℕ) (eighth : length source.functions / 8 ≤ k
   one_weight zero h = absurd (omega arith)
   one_weight (suc w) h = omega arith
 
-  quote_fits : (tree : Tree) → size (quote_of tree) + 8 ≤ (64 + k) * as_tree tree
-  quote_fits tree = let q = size_quote tree in let t = size_tree tree in omega arith
+  literal_fits : (tree : Tree) → size (constant_tree tree) + 8 ≤ (64 + k) * as_tree tree
+  literal_fits tree = let q = size_constant tree in let t = size_tree tree in omega arith
 
-  constant_fits : (found : Option Constant) → size (constant_code found) + 8 ≤ (64 + k) * constant_weight found
+  constant_fits : (found : Option modules.Constant) → code_size (constant_code found) + 8 ≤ (64 + k) * constant_weight found
   constant_fits None = let f = size_failing in omega arith
-  constant_fits (Some constant) = quote_fits constant.value
+  constant_fits (Some constant) = literal_fits constant.value
 
   -- codes of operands, each with bytes to spare
-  SparesFit : List Tree → ℕ → Type 0
+  SparesFit : List Code → ℕ → Type 0
   SparesFit codes w = spare_sizes codes ≤ (64 + k) * w
 
   none_spare : SparesFit [] 0
   unfolding SparesFit
   none_spare = omega arith
 
-  more_spares : (code : Tree) (codes : List Tree) (w v : ℕ) → size code + 8 ≤ (64 + k) * w → SparesFit codes v → SparesFit (code ∷ codes) (w + v)
+  more_spares : (code : Code) (codes : List Code) (w v : ℕ) → code_size code + 8 ≤ (64 + k) * w → SparesFit codes v → SparesFit (code ∷ codes) (w + v)
   unfolding SparesFit
   more_spares code codes w v h s = omega arith
 
-  list_fits : (codes : List Tree) (w : ℕ) → SparesFit codes w → size (list_code codes) + 8 ≤ (64 + k) * (1 + w)
+  list_fits : (codes : List Code) (w : ℕ) → SparesFit codes w → code_size (list_of codes) + 8 ≤ (64 + k) * (1 + w)
   unfolding SparesFit
-  list_fits codes w s = let l = size_list codes in omega arith
+  list_fits codes w s = let l = size_list_of codes in omega arith
 
-  operator_fits : (code : ℕ) (codes : List Tree) (w : ℕ) → SparesFit codes w → size (operator_code code codes) + 8 ≤ (64 + k) * (1 + w)
+  operator_fits : (code : ℕ) (codes : List Code) (w : ℕ) → SparesFit codes w → code_size (operation_of code codes) + 8 ≤ (64 + k) * (1 + w)
   unfolding SparesFit
-  operator_fits code codes w s = let l = size_operator code codes in omega arith
+  operator_fits code codes w s = let l = size_operation_of code codes in omega arith
 
-  call_fits : (name : List ℕ) (codes : List Tree) (w : ℕ) (i : Option ℕ) → index_of name source.functions ≡ i → SparesFit codes w → size (function_call_code i codes) + 8 ≤ (64 + k) * (1 + w)
+  call_fits : (name : List ℕ) (codes : List Code) (w : ℕ) → SparesFit codes w → code_size (call_of (index_of name source.functions) codes) + 8 ≤ (64 + k) * (1 + w)
   unfolding SparesFit
-  call_fits name codes w None e s = let l = size_one_operand 8 (list_code codes) in let m = size_list codes in omega arith
-  call_fits name codes w (Some i) e s = let l = size_call i (length source.functions) codes (index_below name source.functions i e) in omega arith
+  call_fits name codes w s = let l = size_call_of name source.functions (index_of name source.functions) refl codes in omega arith
 
-  choice_fits : (t a b : Tree) (x y z : ℕ) → size t + 8 ≤ (64 + k) * x → size a + 8 ≤ (64 + k) * y → size b + 8 ≤ (64 + k) * z → size (if_code t a b) + 8 ≤ (64 + k) * (1 + (x + (y + z)))
-  choice_fits t a b x y z p q r = let i = size_if t a b in omega arith
+  choice_fits : (t a b : Code) (x y z : ℕ) → code_size t + 8 ≤ (64 + k) * x → code_size a + 8 ≤ (64 + k) * y → code_size b + 8 ≤ (64 + k) * z → code_size (choice_of t a b) + 8 ≤ (64 + k) * (1 + (x + (y + z)))
+  choice_fits t a b x y z p q r = let i = size_choice_of t a b in omega arith
 
-  tree_fits : (tree : Tree) → size (quote_of tree) ≤ 16 + (64 + k) * tree_weight tree
-  tree_fits tree = let q = size_quote tree in let t = size_tree tree in omega arith
+  tree_fits : (tree : Tree) → size (constant_tree tree) ≤ 16 + (64 + k) * tree_weight tree
+  tree_fits tree = let q = size_constant tree in let t = size_tree tree in omega arith
 
-  both_fit : (a b : Tree) (x y : ℕ) → size a ≤ 16 + (64 + k) * x → size b ≤ 16 + (64 + k) * y → size (pair_code a b) ≤ 16 + (64 + k) * (1 + (x + y))
-  both_fit a b x y p q = let z = size_two 4 a b in omega arith
+  both_fit : (a b : Code) (x y : ℕ) → code_size a ≤ 16 + (64 + k) * x → code_size b ≤ 16 + (64 + k) * y → code_size (pair_of a b) ≤ 16 + (64 + k) * (1 + (x + y))
+  both_fit a b x y p q = let z = size_pair_of a b in omega arith
 
   filled_fits : (s w : ℕ) → s ≤ 16 + (64 + k) * w → s + 8 ≤ (64 + k) * (1 + w)
   filled_fits s w h = omega arith
@@ -176,7 +177,7 @@ module _ (source : Module) (k : ℕ) (eighth : length source.functions / 8 ≤ k
     behind : (xs ys : List (List ℕ)) → ShallowIn depth (xs ++ ys) → ShallowIn depth ys
     behind xs ys s called c = s called (among_behind called xs ys c)
 
-    name_fits : (name : List ℕ) (d : Binding (List Side)) (o : Option (List Side)) → BindingFits d o standing → (b : ℕ) → size (name_code source (further_code source b) name d) + 8 ≤ (64 + k) * name_weight standing o (constant_named name source.constants)
+    name_fits : (name : List ℕ) (d : Binding (List Side)) (o : Option (List Side)) → BindingFits d o standing → (b : ℕ) → code_size (name_code source (further_code source b) name d) + 8 ≤ (64 + k) * name_weight standing o (constant_named name source.constants)
     unfolding BindingFits
     name_fits name (ToFound path) None h b = absurd h
     name_fits name (ToFound path) (Some p) h b = h
@@ -202,7 +203,7 @@ module _ (source : Module) (k : ℕ) (eighth : length source.functions / 8 ≤ k
     part_fits (side ∷ path) e v fits =
         let step = Operation (step_code side) (Operand e NoMore) in
         let same : length path + (1 + v) ≡ suc (length path) + v = omega arith in
-        let stepped : CodeFits step names (1 + v) = λ b. let h = fits b in let s = size_one_operand (step_code side) (expression_code source (further_code source b) e names) in omega arith in
+        let stepped : CodeFits step names (1 + v) = λ b. let h = fits b in let s = size_operation_of (step_code side) (expression_code source (further_code source b) e names ∷ []) in omega arith in
         subst (CodeFits (part_of (side ∷ path) e) names) same (part_fits path step (1 + v) stepped)
 
     at_fits : (path : List Side) (operands : Operands) → AllFit operands → ExpressionFits (operand_at path operands) names (at operands path)
@@ -214,19 +215,19 @@ module _ (source : Module) (k : ℕ) (eighth : length source.functions / 8 ≤ k
     at_fits (ToRest ∷ path) (Operand first more) fit = at_fits path more fit.1
 
     body_fits : (name : List ℕ) → Shallow source depth name → (f : Definition) → definition_named name source.inlines ≡ Some f → (inner : Names) (weight : Standing) → NamesFit inner f.params weight →
-        (read : Judged Expression) → body_of source f.params f.body ≡ read → (b : ℕ) → size (body_code (further_code source b) read inner) + 8 ≤ (64 + k) * (1 + body_weight (weight_of source f.params weight) read)
+        (read : Judged Expression) → body_of source f.params f.body ≡ read → (b : ℕ) → code_size (body_code (further_code source b) read inner) + 8 ≤ (64 + k) * (1 + body_weight (weight_of source f.params weight) read)
     body_fits name s f is inner weight fit (Ok e) reads b = let h = lower name s f is e reads inner weight fit b in omega arith
     body_fits name s f is inner weight fit (Err first) reads b = let f = size_failing in omega arith
 
     inline_fits : (name : List ℕ) → Shallow source depth name → (operands : Operands) → AllFit operands → (f : Option Definition) → definition_named name source.inlines ≡ f → (b : ℕ) →
-        size (inline_code source (further_code source b) operands names f) + 8 ≤ (64 + k) * inline_weight by_body f (at operands)
+        code_size (inline_code source (further_code source b) operands names f) + 8 ≤ (64 + k) * inline_weight by_body f (at operands)
     inline_fits name s operands fit None is b = let f = size_failing in omega arith
     inline_fits name s operands fit (Some f) is b =
         body_fits name s f is (inline_environment f.params operands names) (at operands) (inline_names_fit (parameters f.params) operands names (at operands) (λ path. at_fits path operands fit)) (body_of source f.params f.body) refl b
 
     mutual
       expression_fits : (e : Expression) → ShallowIn depth (inlines_called e) → CodeFits e names (w e)
-      expression_fits (Literal tree) s = λ b. quote_fits tree
+      expression_fits (Literal tree) s = λ b. literal_fits tree
       expression_fits (Name name) s = name_fits name (binding_of name names) (path_of name params) (fits name)
       expression_fits (Choice condition second third) s =
           let later = behind (inlines_called condition) (inlines_called second ++ inlines_called third) s in
@@ -237,7 +238,7 @@ module _ (source : Module) (k : ℕ) (eighth : length source.functions / 8 ≤ k
           λ b. choice_fits (code condition b) (code second b) (code third b) (w condition) (w second) (w third) (p b) (q b) (r b)
       expression_fits (Listing operands) s = λ b. list_fits _ (each operands) (spares_fit operands (operands_fit operands s) b)
       expression_fits (Operation code operands) s = λ b. operator_fits code _ (each operands) (spares_fit operands (operands_fit operands s) b)
-      expression_fits (FunctionCall name operands) s = λ b. call_fits name _ (each operands) (index_of name source.functions) refl (spares_fit operands (operands_fit operands s) b)
+      expression_fits (FunctionCall name operands) s = λ b. call_fits name _ (each operands) (spares_fit operands (operands_fit operands s) b)
       expression_fits (InlineCall name operands) s =
           inline_fits name (s name (among_first name (called_by_operands operands))) operands (operands_fit operands (behind (name ∷ []) (called_by_operands operands) s)) (definition_named name source.inlines) refl
       expression_fits (Filled template) s = λ b. filled_fits _ (filled template) (template_fits template s b)
@@ -246,7 +247,7 @@ module _ (source : Module) (k : ℕ) (eighth : length source.functions / 8 ≤ k
       operands_fit NoMore s = tt
       operands_fit (Operand first more) s = (expression_fits first (front (inlines_called first) (called_by_operands more) s), operands_fit more (behind (inlines_called first) (called_by_operands more) s))
 
-      template_fits : (t : Template) → ShallowIn depth (called_by_template t) → (b : ℕ) → size (template_code source (further_code source b) t names) ≤ 16 + (64 + k) * filled t
+      template_fits : (t : Template) → ShallowIn depth (called_by_template t) → (b : ℕ) → code_size (template_code source (further_code source b) t names) ≤ 16 + (64 + k) * filled t
       template_fits (Plain tree) s b = tree_fits tree
       template_fits (Both first rest) s b =
           both_fit (template_code source (further_code source b) first names) (template_code source (further_code source b) rest names) (filled first) (filled rest) (template_fits first (front (called_by_template first) (called_by_template rest) s) b) (template_fits rest (behind (called_by_template first) (called_by_template rest) s) b)
@@ -280,11 +281,11 @@ module _ (source : Module) (ends : HasNoCycle source) where
       (expression_fits source k (omega arith) (length source.inlines) (lower_at (length source.inlines)) params own (function_names params) (λ name. own_fits source k (omega arith) name (parameters params)) e
       (λ called c. shallow source ends (length source.inlines) [] called tt tt tt (omega arith)))
 
-  code_fits : (b : ℕ) (params body : Form) → IsBound source params body → size (body_code (code_within source b) (body_of source params body) (function_names params)) + 8 ≤ (64 + k) * expression_weight source params body
+  code_fits : (b : ℕ) (params body : Form) → IsBound source params body → code_size (body_code (code_within source b) (body_of source params body) (function_names params)) + 8 ≤ (64 + k) * expression_weight source params body
   unfolding expression_weight
   code_fits b params body (e, is) =
-      subst (λ read. size (body_code (code_within source b) read (function_names params)) + 8 ≤ (64 + k) * body_weight (weight_of source params own) read) (sym is)
-      (subst (λ code. size code + 8 ≤ (64 + k) * weight_of source params own e) (sym (code_is source b e (function_names params))) (own_code_fits params e b))
+      subst (λ read. code_size (body_code (code_within source b) read (function_names params)) + 8 ≤ (64 + k) * body_weight (weight_of source params own) read) (sym is)
+      (subst (λ code. code_size code + 8 ≤ (64 + k) * weight_of source params own e) (sym (code_is source b e (function_names params))) (own_code_fits params e b))
 
   table_fits : (b : ℕ) (fs : List Definition) → AllByRecursion (λ d. IsBound source d.params d.body) fs → size (list_tree (map (function_code source b) fs)) ≤ 1 + (64 + k) * sum_by (definition_weight source) fs
   table_fits b [] are = omega arith
@@ -296,7 +297,7 @@ module _ (source : Module) (ends : HasNoCycle source) where
   pub module_fits : AreBound source → (b : ℕ) → size (module_code source b) ≤ module_bound source
   unfolding module_code
   module_fits bound b =
-      let body = body_code (code_within source b) (body_of source source.params source.body) (function_names source.params) in
+      let body = tree_of (body_code (code_within source b) (body_of source source.params source.body) (function_names source.params)) in
       let start = pair_code (quote_of (table_code source b)) (path_code []) in
       whole_module k (size body) (size (table_code source b)) (size (quote_of body)) (size start) (size (quote_of (table_code source b))) (size (path_code [])) _ (expression_weight source source.params source.body) (sum_by (definition_weight source) source.functions)
       (size_two 2 (quote_of body) start) (size_quote body) (size_two 4 (quote_of (table_code source b)) (path_code [])) (size_quote (table_code source b)) (size_path []) (code_fits b source.params source.body bound.2) (table_fits b source.functions bound.0)

@@ -5,6 +5,7 @@ use Rattle.clvm_spec.specs.Tree.{Tree, list_tree}
 use Rattle.lisp_spec.specs.Modules.{Module, Definition}
 use Rattle.clvm_spec.specs.Currying.{quote_of}
 use Rattle.lisp_code.specs.Pieces.{operator_code, path_code}
+use Rattle.lisp_code.specs.Codes.{Other}
 use Rattle.lisp_code.specs.Code.{Codes, expression_code, definition_code, whole_code}
 
 -- `(a 1 1)` run on itself
@@ -15,7 +16,7 @@ abbrev pub looping : Tree
 looping = operator_code 2 (quote_of itself ∷ quote_of itself ∷ [])
 
 abbrev pub code_within : Module → ℕ → Codes
-code_within source zero = expression_code source (λ e names. looping)
+code_within source zero = expression_code source (λ e names. Other looping)
 code_within source (suc depth) = expression_code source (code_within source depth)
 
 abbrev pub function_code : Module → ℕ → Definition → Tree

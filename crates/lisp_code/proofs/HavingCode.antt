@@ -11,11 +11,12 @@ use Rattle.lisp_spec.specs.CycleLaws.{HasNoCycle}
 use Rattle.lisp_spec.specs.ExpressionWeights.{module_bound}
 use Rattle.lisp_code.specs.Names.{Names, function_names}
 use Rattle.lisp_code.specs.Pieces.{operator_code, pair_code, path_code}
+use Rattle.lisp_code.specs.Codes.{tree_of, fails}
 use Rattle.lisp_code.specs.Code.{Codes, body_code, expression_code, definition_code, whole_code}
-use Rattle.lisp_code.specs.CodeLaws.{ModulesHaveCode, WorkEnds}
+use Rattle.lisp_code.specs.CodeLaws.{ModulesHaveCode, marked, WorkEnds}
 use Rattle.lisp_code.proofs.Depths.{code_within, function_code, module_code, IsSettled}
-use Rattle.lisp_code.proofs.Eventually.{Eventually, eventually_same, eventually_two}
-use Rattle.lisp_code.proofs.Making.{marked, Making}
+use Rattle.lisp_code.proofs.Eventually.{Eventually, eventually_same, eventually_map, eventually_two}
+use Rattle.lisp_code.proofs.Making.{each_marked, Making}
 use Rattle.lisp_code.proofs.Settling.{each_settles}
 use Rattle.lisp_code.proofs.Limits.{body_limit, limit_is_its_step}
 use Rattle.lisp_code.proofs.Agreed.{code_agrees, code_fails_alike}
@@ -29,7 +30,7 @@ module _ (it : Making) (ends : HasNoCycle it.source) where
   unfolding last_made
   last_limits e names = (each_settles it ends e names).1
 
-  pub last_step : (e : Expression) (names : Names) → last_made e names ≡ expression_code it.source (marked it.mark last_made) e names
+  pub last_step : (e : Expression) (names : Names) → last_made e names ≡ expression_code it.source (each_marked it.mark last_made) e names
   last_step e names = limit_is_its_step it last_made last_limits e names
 
 -- ---- the code
@@ -39,7 +40,10 @@ codes_of source = record { source = source; mark = λ code. code; made = code_wi
 
 module _ (source : Module) (code : Codes) (limits : (e : Expression) (names : Names) → Eventually (λ b. code_within source b e names) (code e names)) where
   function_limit : (f : Definition) → Eventually (λ b. function_code source b f) (definition_code source code f)
-  function_limit f = body_limit (code_within source) code limits (body_of source f.params f.body) (function_names f.params)
+  function_limit f =
+      let read = body_of source f.params f.body in
+      let names = function_names f.params in
+      eventually_map tree_of (λ b. body_code (code_within source b) read names) (body_code code read names) (body_limit (code_within source) code limits read names)
 
   functions_limit : (fs : List Definition) → Eventually (λ b. list_tree (map (function_code source b) fs)) (list_tree (map (definition_code source code) fs))
   functions_limit [] = eventually_same nil
@@ -52,8 +56,9 @@ module _ (source : Module) (code : Codes) (limits : (e : Expression) (names : Na
       let whole = λ (body table : Tree). operator_code 2 (quote_of body ∷ pair_code (quote_of table) (path_code []) ∷ []) in
       let read = body_of source source.params source.body in
       let names = function_names source.params in
-      eventually_two whole (λ b. body_code (code_within source b) read names) (λ b. list_tree (map (function_code source b) source.functions))
-      (body_code code read names) (list_tree (map (definition_code source code) source.functions)) (body_limit (code_within source) code limits read names) (functions_limit source.functions)
+      eventually_two whole (λ b. tree_of (body_code (code_within source b) read names)) (λ b. list_tree (map (function_code source b) source.functions))
+      (tree_of (body_code code read names)) (list_tree (map (definition_code source code) source.functions))
+      (eventually_map tree_of (λ b. body_code (code_within source b) read names) (body_code code read names) (body_limit (code_within source) code limits read names)) (functions_limit source.functions)
 
 settled_code : (source : Module) (code : Tree) → Eventually (module_code source) code → (depth : ℕ) × IsSettled source depth × (module_code source depth ≡ code)
 unfolding Eventually
@@ -74,11 +79,11 @@ modules_have_code source bound ends =
 -- ---- the work
 
 abbrev measured_within : Module → ℕ → Codes
-measured_within source zero = expression_code source (λ e names. nil)
-measured_within source (suc depth) = expression_code source (marked (Pair nil) (measured_within source depth))
+measured_within source zero = expression_code source (λ e names. fails)
+measured_within source (suc depth) = expression_code source (each_marked marked (measured_within source depth))
 
 abbrev measured_of : Module → Making
-measured_of source = record { source = source; mark = Pair nil; made = measured_within source; step = λ b e names. refl }
+measured_of source = record { source = source; mark = marked; made = measured_within source; step = λ b e names. refl }
 
 pub work_ends : WorkEnds
 work_ends source ends = (last_made (measured_of source) ends, last_step (measured_of source) ends)

@@ -1,8 +1,10 @@
 -- How long the code of a module is.
-use Rattle.std.proofs.Common.{◌≡◌, ℕ, zero, suc, ◌+◌, ◌*◌, ◌/◌, ◌^◌, ◌<◌, ◌≤◌, Bool, true, false, cond, ltb, List, [], ◌∷◌, length, Option, Some, None, option_map, bytes_eq, refl, sym, ap, subst, arith}
+use Rattle.std.proofs.Common.{◌≡◌, ◌==◌, ℕ, zero, suc, ◌+◌, ◌*◌, ◌/◌, ◌^◌, ◌<◌, ◌≤◌, Bool, true, false, cond, ltb, List, [], ◌∷◌, ◌++◌, length, map, Option, Some, None, option_map, bytes_eq, refl, sym, ap, subst, arith}
 use Rattle.std.proofs.lemmas.List.{length-append}
 use Rattle.std.proofs.lemmas.Bool.{cond_both}
-use Rattle.std.proofs.lemmas.Int.Digits.{length-digits_of-le}
+use Rattle.std.proofs.lemmas.Int.Digits.{length-digits_of-le, number_digits_of, number_lt, all_below_base_digits_of}
+use Rattle.clvm_spec.specs.Numbers.{unsigned}
+use Rattle.lisp_spec.specs.Environments.{step_code}
 use Rattle.clvm_spec.specs.Tree.{Tree, Atom, Pair, nil, list_tree}
 use Rattle.clvm_spec.specs.Spelling.{prefix, spelling}
 use Rattle.lisp_spec.specs.Weights.{tree_weight}
@@ -10,7 +12,8 @@ use Rattle.lisp_spec.specs.Parameters.{Side, ToFirst, ToRest}
 use Rattle.lisp_spec.specs.Modules.{Definition}
 use Rattle.clvm_spec.specs.Currying.{quote_of}
 use Rattle.lisp_code.specs.Paths.{path_number, path_atom}
-use Rattle.lisp_code.specs.Pieces.{operator_code, path_code, failing, pair_code, list_code, if_code, list_path, call_code}
+use Rattle.lisp_code.specs.Pieces.{operator_code, path_code, failing, pair_code, if_code, list_path}
+use Rattle.lisp_code.specs.Codes.{Code, Constant, Path, Other, constant_tree, tree_of, pair_of, list_of, step_of, operation_of, choice_of, call_code, call_of}
 use Rattle.lisp_code.specs.Code.{index_of}
 use Rattle.lisp_code.proofs.Depths.{itself, looping}
 use Rattle.lisp_code.proofs.PathLaws.{bytes_of_bits}
@@ -94,32 +97,107 @@ size_if t a b =
     let l = size_two 2 choice (path_code []) in let p = size_path [] in let c = size_three 3 t (quote_of a) (quote_of b) in let qa = size_quote a in let qb = size_quote b in omega arith
 
 -- operands, each with 8 bytes to spare
-abbrev pub spare_sizes : List Tree → ℕ
-spare_sizes [] = 0
-spare_sizes (code ∷ more) = size code + 8 + spare_sizes more
+abbrev spare_trees : List Tree → ℕ
+spare_trees [] = 0
+spare_trees (code ∷ more) = size code + 8 + spare_trees more
 
-pub size_list : (operands : List Tree) → size (list_code operands) ≤ 4 + spare_sizes operands
-size_list [] = let q = size_quote nil in omega arith
-size_list (operand ∷ operands) = let p = size_two 4 operand (list_code operands) in let h = size_list operands in omega arith
-
-size_operands : (operands : List Tree) → size (list_tree operands) ≤ 1 + spare_sizes operands
+size_operands : (operands : List Tree) → size (list_tree operands) ≤ 1 + spare_trees operands
 size_operands [] = omega arith
 size_operands (operand ∷ operands) = let p = size_pair operand (list_tree operands) in let h = size_operands operands in omega arith
 
-pub size_operator : (code : ℕ) (operands : List Tree) → size (operator_code code operands) ≤ 4 + spare_sizes operands
+size_operator : (code : ℕ) (operands : List Tree) → size (operator_code code operands) ≤ 4 + spare_trees operands
 size_operator code operands = let p = size_pair (Atom (code ∷ [])) (list_tree operands) in let b = size_byte code in let h = size_operands operands in omega arith
+
+-- ---- codes
+
+abbrev pub code_size : Code → ℕ
+code_size code = size (tree_of code)
+
+abbrev pub spare_sizes : List Code → ℕ
+spare_sizes codes = spare_trees (map tree_of codes)
+
+pub size_constant : (tree : Tree) → size (constant_tree tree) ≤ 3 + size tree
+size_constant (Atom []) = omega arith
+size_constant (Atom (b ∷ bytes)) = size_quote (Atom (b ∷ bytes))
+size_constant (Pair a b) = size_quote (Pair a b)
+
+least_quote : (tree : Tree) → size tree ≤ size (quote_of tree)
+least_quote tree = let p = size_pair (Atom (1 ∷ [])) tree in omega arith
+
+least_constant : (tree : Tree) → size tree ≤ size (constant_tree tree)
+least_constant (Atom []) = omega arith
+least_constant (Atom (b ∷ bytes)) = least_quote (Atom (b ∷ bytes))
+least_constant (Pair a b) = least_quote (Pair a b)
+
+pub size_pair_of : (a b : Code) → code_size (pair_of a b) ≤ 6 + (code_size a + code_size b)
+size_pair_of (Constant x) (Constant y) = let q = size_quote (Pair x y) in let p = size_pair x y in let lx = least_constant x in let ly = least_constant y in omega arith
+size_pair_of (Constant x) (Path path) = size_two 4 (constant_tree x) (path_code path)
+size_pair_of (Constant x) (Other tree) = size_two 4 (constant_tree x) tree
+size_pair_of (Path path) b = size_two 4 (path_code path) (tree_of b)
+size_pair_of (Other tree) b = size_two 4 tree (tree_of b)
+
+pub size_list_of : (codes : List Code) → code_size (list_of codes) ≤ 4 + spare_sizes codes
+size_list_of [] = omega arith
+size_list_of (code ∷ codes) = let p = size_pair_of code (list_of codes) in let h = size_list_of codes in omega arith
+
+-- A path with one step more has at most one byte more.
+longer_number : (path : List Side) (side : Side) → path_number (path ++ side ∷ []) ≤ 3 * path_number path
+longer_number [] ToFirst = omega arith
+longer_number [] ToRest = omega arith
+longer_number (ToFirst ∷ path) side = let h = longer_number path side in omega arith
+longer_number (ToRest ∷ path) side = let h = longer_number path side in omega arith
+
+least_atom : (bytes : List ℕ) → length bytes ≤ size (Atom bytes)
+least_atom [] = omega arith
+least_atom (b ∷ []) = cond_both (ltb b 0x80) _ _ (λ xs. 1 ≤ length xs) (λ e. omega arith) (λ e. omega arith)
+least_atom (b ∷ c ∷ bytes) = let l = length-append (prefix (length (b ∷ c ∷ bytes))) (b ∷ c ∷ bytes) in omega arith
+
+size_longer : (path : List Side) (side : Side) → size (path_code (path ++ side ∷ [])) ≤ 6 + size (path_code path)
+size_longer path side =
+    let bytes = path_atom path in
+    let is : unsigned bytes ≡ path_number path = number_digits_of 256 (path_number path) (omega arith) in
+    let below : path_number path < 256 ^ length bytes = subst (λ k. k < 256 ^ length bytes) is (number_lt 256 bytes (all_below_base_digits_of 256 (path_number path) (omega arith))) in
+    let more : 256 ^ suc (length bytes) ≡ 256 * 256 ^ length bytes = omega arith in
+    let longer = longer_number path side in
+    let l : length (path_atom (path ++ side ∷ [])) ≤ suc (length bytes) = length-digits_of-le 256 (suc (length bytes)) (path_number (path ++ side ∷ [])) (omega arith) (omega arith) in
+    let a = size_atom (path_atom (path ++ side ∷ [])) in let b = least_atom bytes in omega arith
+
+pub size_step_of : (side : Side) (code : Code) → code_size (step_of side code) ≤ 6 + code_size code
+size_step_of side (Path path) = size_longer path side
+size_step_of side (Constant tree) = let s = size_one_operand (step_code side) (constant_tree tree) in omega arith
+size_step_of side (Other tree) = let s = size_one_operand (step_code side) tree in omega arith
+
+pub size_operation_of : (code : ℕ) (codes : List Code) → code_size (operation_of code codes) ≤ 4 + spare_sizes codes
+size_operation_of code [] = size_operator code []
+size_operation_of code (a ∷ []) =
+    cond_both (code == 5) _ _ (λ c. code_size c ≤ 4 + spare_sizes (a ∷ [])) (λ e. let s = size_step_of ToFirst a in omega arith)
+    (λ e. cond_both (code == 6) _ _ (λ c. code_size c ≤ 4 + spare_sizes (a ∷ [])) (λ e. let s = size_step_of ToRest a in omega arith) (λ e. size_operator code (tree_of a ∷ [])))
+size_operation_of code (a ∷ b ∷ []) =
+    cond_both (code == 4) _ _ (λ c. code_size c ≤ 4 + spare_sizes (a ∷ b ∷ [])) (λ e. let s = size_pair_of a b in omega arith) (λ e. size_operator code (tree_of a ∷ tree_of b ∷ []))
+size_operation_of code (a ∷ b ∷ c ∷ codes) = size_operator code (map tree_of (a ∷ b ∷ c ∷ codes))
+
+pub size_choice_of : (t a b : Code) → code_size (choice_of t a b) ≤ 25 + (code_size t + code_size a + code_size b)
+size_choice_of t (Constant x) (Constant y) = let s = size_three 3 (tree_of t) (constant_tree x) (constant_tree y) in omega arith
+size_choice_of t (Constant x) (Path path) = size_if (tree_of t) (constant_tree x) (path_code path)
+size_choice_of t (Constant x) (Other tree) = size_if (tree_of t) (constant_tree x) tree
+size_choice_of t (Path path) b = size_if (tree_of t) (path_code path) (tree_of b)
+size_choice_of t (Other tree) b = size_if (tree_of t) tree (tree_of b)
 
 index_either : (b : Bool) (later : Option ℕ) (bound i : ℕ) → ((j : ℕ) → later ≡ Some j → j < bound) → cond b (Some 0) (option_map (λ k. suc k) later) ≡ Some i → i < suc bound
 index_either true later bound i h e = let same : 0 ≡ i = cc in omega arith
 index_either false None bound i h e = absurd cc
 index_either false (Some j) bound i h e = let same : suc j ≡ i = cc in let below = h j refl in omega arith
 
-pub index_below : (name : List ℕ) (fs : List Definition) (i : ℕ) → index_of name fs ≡ Some i → i < length fs
+index_below : (name : List ℕ) (fs : List Definition) (i : ℕ) → index_of name fs ≡ Some i → i < length fs
 index_below name [] i e = absurd cc
 index_below name (d ∷ fs) i e = index_either (bytes_eq d.name name) (index_of name fs) (length fs) i (λ j h. index_below name fs j h) e
 
-pub size_call : (i functions : ℕ) (operands : List Tree) → i < functions → size (call_code i operands) ≤ 40 + functions / 8 + spare_sizes operands
-size_call i functions operands h =
-    let made = pair_code (path_code (ToFirst ∷ [])) (list_code operands) in
-    let l = size_two 2 (path_code (ToFirst ∷ list_path i)) made in let m = size_two 4 (path_code (ToFirst ∷ [])) (list_code operands) in
-    let p = size_path (ToFirst ∷ list_path i) in let n = length_list_path i in let q = size_path (ToFirst ∷ []) in let s = size_list operands in omega arith
+size_call : (i functions : ℕ) (list : Tree) → i < functions → size (call_code i list) ≤ 36 + functions / 8 + size list
+size_call i functions list h =
+    let made = pair_code (path_code (ToFirst ∷ [])) list in
+    let l = size_two 2 (path_code (ToFirst ∷ list_path i)) made in let m = size_two 4 (path_code (ToFirst ∷ [])) list in
+    let p = size_path (ToFirst ∷ list_path i) in let n = length_list_path i in let q = size_path (ToFirst ∷ []) in omega arith
+
+pub size_call_of : (name : List ℕ) (fs : List Definition) (i : Option ℕ) → index_of name fs ≡ i → (codes : List Code) → code_size (call_of i codes) ≤ 40 + length fs / 8 + spare_sizes codes
+size_call_of name fs None e codes = let l = size_one_operand 8 (tree_of (list_of codes)) in let m = size_list_of codes in omega arith
+size_call_of name fs (Some i) e codes = let l = size_call i (length fs) (tree_of (list_of codes)) (index_below name fs i e) in let m = size_list_of codes in omega arith

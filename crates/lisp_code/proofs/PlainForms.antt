@@ -1,18 +1,20 @@
 -- What the pieces of code give by the plain evaluation.
-use Rattle.std.proofs.Common.{◌≡◌, ℕ, zero, suc, ◌+◌, ◌==◌, false, cond, List, [], ◌∷◌, length, Option, Some, None, refl, sym, ap, ◌∙◌, subst, arith}
+use Rattle.std.proofs.Common.{◌≡◌, ℕ, zero, suc, ◌+◌, ◌==◌, false, cond, List, [], ◌∷◌, ◌++◌, Option, Some, None, refl, sym, ap, ◌∙◌, subst, arith}
 use Rattle.clvm_spec.specs.Tree.{Tree, Atom, Pair, nil, list_tree}
 use Rattle.clvm_spec.specs.ProperList.{elements}
 use Rattle.clvm_spec.specs.Operators.{is_nil}
 use Rattle.clvm_spec.specs.OperatorTable.{applied, operator_of}
 use Rattle.clvm_spec.specs.Evaluation.{is_byte}
 use Rattle.clvm_spec.proofs.ListLaws.{elements_of_list}
-use Rattle.lisp_spec.specs.Parameters.{Side, ToFirst, tree_at}
-use Rattle.lisp_spec.specs.Meaning.{Meaning, Value, Failed, Out, if_value, operator_meaning}
+use Rattle.lisp_spec.specs.Parameters.{Side, ToFirst, ToRest, tree_at}
+use Rattle.lisp_spec.specs.Environments.{step_code}
+use Rattle.lisp_spec.specs.Meaning.{Meaning, Value, Failed, Out, if_value, operator_meaning, operate}
 use Rattle.clvm_spec.specs.Currying.{quote_of}
 use Rattle.lisp_code.proofs.Refining.{Refines, out, same, Rises}
 use Rattle.lisp_code.proofs.Plain.{Runs, plain_run, plain_apply, plain_values, plain_form, plain_by, plain}
 use Rattle.lisp_code.proofs.Plain.{found_meaning}
-use Rattle.lisp_code.specs.Pieces.{operator_code, path_code, failing, pair_code, list_code, if_code, list_path, call_code}
+use Rattle.lisp_code.specs.Pieces.{operator_code, path_code, failing, pair_code, if_code, list_path}
+use Rattle.lisp_code.specs.Codes.{constant_tree, call_code}
 use Rattle.lisp_code.proofs.Depths.{itself, looping}
 use Rattle.lisp_code.proofs.Refined.{refines_equal, refines_then, refines_cond, refines_trans, if_value_if_value}
 use Rattle.lisp_code.proofs.PathLaws.{path_leads}
@@ -140,64 +142,66 @@ module _ (table argument : Tree) where
       (refines_then _ _ _ _ (plain_rises list (Pair table argument) m (suc m) (omega arith))
       (λ t. value_then _ table _ _ (path_says m (ToFirst ∷ []) (Pair table argument) table refl) (same (Value (Pair table t)))))
 
-  pub call_says : (m k : ℕ) (operands : List Tree) (code : Tree) → tree_at (list_path k) table ≡ Some code →
-      Refines (plain (suc m) (call_code k operands) (Pair table argument)) (if_value (plain m (list_code operands) (Pair table argument)) (λ t. plain m code (Pair table t)))
-  call_says m k operands code e =
+  pub call_says : (m k : ℕ) (list : Tree) (code : Tree) → tree_at (list_path k) table ≡ Some code →
+      Refines (plain (suc m) (call_code k list) (Pair table argument)) (if_value (plain m list (Pair table argument)) (λ t. plain m code (Pair table t)))
+  call_says m k list code e =
       let env = Pair table argument in
-      let made = pair_code (path_code (ToFirst ∷ [])) (list_code operands) in
+      let made = pair_code (path_code (ToFirst ∷ [])) list in
       let is = plain_operator m 2 (path_code (ToFirst ∷ list_path k) ∷ made ∷ []) env refl in
       refines_trans _ _ _ (refines_equal _ _ is)
-      (refines_trans _ _ _ (refines_then _ _ _ _ (with_table_says m (list_code operands)) (λ e'. value_then _ code _ _ (path_says m (ToFirst ∷ list_path k) env code e) (same (plain m code e'))))
-      (refines_equal _ _ (if_value_if_value (plain m (list_code operands) env) (λ t. Value (Pair table t)) (λ e'. plain m code e'))))
+      (refines_trans _ _ _ (refines_then _ _ _ _ (with_table_says m list) (λ e'. value_then _ code _ _ (path_says m (ToFirst ∷ list_path k) env code e) (same (plain m code e'))))
+      (refines_equal _ _ (if_value_if_value (plain m list env) (λ t. Value (Pair table t)) (λ e'. plain m code e'))))
 
-  pub call_gives : (m k : ℕ) (operands : List Tree) (code : Tree) → tree_at (list_path k) table ≡ Some code →
-      if_value (plain (suc m) (list_code operands) (Pair table argument)) (λ t. plain (suc (suc m)) code (Pair table t)) ≡ plain (suc (suc (suc m))) (call_code k operands) (Pair table argument)
-  call_gives m k operands code e =
+  pub call_gives : (m k : ℕ) (list : Tree) (code : Tree) → tree_at (list_path k) table ≡ Some code →
+      if_value (plain (suc m) list (Pair table argument)) (λ t. plain (suc (suc m)) code (Pair table t)) ≡ plain (suc (suc (suc m))) (call_code k list) (Pair table argument)
+  call_gives m k list code e =
       let env = Pair table argument in
-      let made = pair_code (path_code (ToFirst ∷ [])) (list_code operands) in
+      let made = pair_code (path_code (ToFirst ∷ [])) list in
       let is = plain_operator (suc (suc m)) 2 (path_code (ToFirst ∷ list_path k) ∷ made ∷ []) env refl in
       let finds : plain (suc (suc m)) (path_code (ToFirst ∷ list_path k)) env ≡ Value code = plain_path (suc m) (ToFirst ∷ list_path k) env ∙ ap found_meaning e in
-      let makes : plain (suc (suc m)) made env ≡ if_value (plain (suc m) (list_code operands) env) (λ t. Value (Pair table t)) =
-      plain_pair (suc m) (path_code (ToFirst ∷ [])) (list_code operands) env
-      ∙ ap (λ x. if_value (plain (suc m) (list_code operands) env) (λ t. if_value x (λ a. Value (Pair a t)))) (plain_path m (ToFirst ∷ []) env) in
+      let makes : plain (suc (suc m)) made env ≡ if_value (plain (suc m) list env) (λ t. Value (Pair table t)) =
+      plain_pair (suc m) (path_code (ToFirst ∷ [])) list env
+      ∙ ap (λ x. if_value (plain (suc m) list env) (λ t. if_value x (λ a. Value (Pair a t)))) (plain_path m (ToFirst ∷ []) env) in
       sym (is
       ∙ ap (λ x. if_value (plain (suc (suc m)) made env) (λ e'. if_value x (λ p. plain (suc (suc m)) p e'))) finds
       ∙ ap (λ x. if_value x (λ e'. plain (suc (suc m)) code e')) makes
-      ∙ if_value_if_value (plain (suc m) (list_code operands) env) (λ t. Value (Pair table t)) (λ e'. plain (suc (suc m)) code e'))
+      ∙ if_value_if_value (plain (suc m) list env) (λ t. Value (Pair table t)) (λ e'. plain (suc (suc m)) code e'))
 
 pub unknown_call : (m : ℕ) (list env : Tree) → plain (suc m) (operator_code 8 (list ∷ [])) env ≡ if_value (plain m list env) (λ t. Failed)
 unfolding applied operator_of
 unknown_call m list env = plain_operator m 8 (list ∷ []) env refl
 
--- ---- lists
+-- ---- constants and steps
 
-plain_natural : (x : Tree → Meaning) (operands : List Tree) (h : List Tree → Meaning) (g : Tree → Meaning) → plain_values x operands (λ values. if_value (h values) g) ≡ if_value (plain_values x operands h) g
-plain_natural x [] h g = refl
-plain_natural x (operand ∷ operands) h g =
-    (λ i. plain_values x operands (λ values. sym (if_value_if_value (x operand) (λ v. h (v ∷ values)) g) i))
-    ∙ plain_natural x operands (λ values. if_value (x operand) (λ v. h (v ∷ values))) g
+pub constant_is : (m : ℕ) (tree env : Tree) → plain (suc m) (constant_tree tree) env ≡ Value tree
+constant_is m (Atom []) env = refl
+constant_is m (Atom (b ∷ bytes)) env = refl
+constant_is m (Pair first rest) env = refl
 
-abbrev pub plain_list : ℕ → List Tree → Tree → Meaning
-plain_list m operands env = plain_values (λ operand. plain m operand env) operands (λ values. Value (list_tree values))
+pub constant_says : (m : ℕ) (tree env : Tree) → Refines (plain m (constant_tree tree) env) (Value tree)
+constant_says zero tree env = out _
+constant_says (suc m) tree env = refines_equal _ _ (constant_is m tree env)
 
-plain_list_more : (m : ℕ) (operand : Tree) (operands : List Tree) (env : Tree) → plain_list m (operand ∷ operands) env ≡ if_value (plain_list m operands env) (λ t. if_value (plain m operand env) (λ v. Value (Pair v t)))
-plain_list_more m operand operands env = plain_natural (λ operand. plain m operand env) operands (λ values. Value (list_tree values)) (λ t. if_value (plain m operand env) (λ v. Value (Pair v t)))
+-- the choice of one of two constants
+pub constant_choice : (m : ℕ) (t a b env : Tree) → plain (suc (suc m)) (operator_code 3 (t ∷ constant_tree a ∷ constant_tree b ∷ [])) env ≡ if_value (plain (suc m) t env) (λ v. Value (picked v a b))
+unfolding applied operator_of
+constant_choice m t a b env =
+    plain_operator (suc m) 3 (t ∷ constant_tree a ∷ constant_tree b ∷ []) env refl
+    ∙ ap (λ x. if_value x (λ vb. if_value (plain (suc m) (constant_tree a) env) (λ va. if_value (plain (suc m) t env) (λ v. operator_meaning (applied (3 ∷ []) (v ∷ va ∷ vb ∷ [])))))) (constant_is m b env)
+    ∙ ap (λ x. if_value x (λ va. if_value (plain (suc m) t env) (λ v. operator_meaning (applied (3 ∷ []) (v ∷ va ∷ b ∷ []))))) (constant_is m a env)
 
-pub list_gives : (m : ℕ) (operands : List Tree) (env : Tree) → Refines (plain_list m operands env) (plain (suc (m + length operands)) (list_code operands) env)
-list_gives m [] env = same (Value nil)
-list_gives m (operand ∷ operands) env =
-    let k : m + suc (length operands) ≡ suc (m + length operands) = omega arith in
-    subst (λ k. Refines (plain_list m (operand ∷ operands) env) (plain (suc k) (list_code (operand ∷ operands)) env)) (sym k)
-    (refines_trans _ _ _ (refines_equal _ _ (plain_list_more m operand operands env))
-    (refines_trans _ _ _ (refines_then _ _ _ _ (list_gives m operands env) (λ t. refines_then _ _ _ _ (plain_rises operand env m (suc (m + length operands)) (omega arith)) (λ v. same (Value (Pair v t)))))
-    (refines_equal _ _ (sym (plain_pair (suc (m + length operands)) operand (list_code operands) env)))))
+-- A step into what a path leads to is one more step of the path.
+pub found_step : (n : ℕ) (side : Side) (path : List Side) (env : Tree) → if_value (found_meaning (tree_at path env)) (λ v. operate n (step_code side) (v ∷ [])) ≡ found_meaning (tree_at (path ++ side ∷ []) env)
+unfolding applied operator_of
+found_step n ToFirst [] (Atom bytes) = refl
+found_step n ToFirst [] (Pair first rest) = refl
+found_step n ToRest [] (Atom bytes) = refl
+found_step n ToRest [] (Pair first rest) = refl
+found_step n side (ToFirst ∷ path) (Atom bytes) = refl
+found_step n side (ToRest ∷ path) (Atom bytes) = refl
+found_step n side (ToFirst ∷ path) (Pair first rest) = found_step n side path first
+found_step n side (ToRest ∷ path) (Pair first rest) = found_step n side path rest
 
-pub list_says : (m : ℕ) (operands : List Tree) (env : Tree) → Refines (plain m (list_code operands) env) (plain_list m operands env)
-list_says m [] env = quote_says m nil env
-list_says zero (operand ∷ operands) env = out _
-list_says (suc m) (operand ∷ operands) env =
-    refines_trans _ _ _ (refines_equal _ _ (plain_pair m operand (list_code operands) env))
-    (refines_trans _ _ _ (refines_then _ _ _ _
-    (refines_trans _ _ _ (plain_rises (list_code operands) env m (suc m) (omega arith)) (list_says (suc m) operands env))
-    (λ t. refines_then _ _ _ _ (plain_rises operand env m (suc m) (omega arith)) (λ v. same (Value (Pair v t)))))
-    (refines_equal _ _ (sym (plain_list_more (suc m) operand operands env))))
+pub pair_operates : (n : ℕ) (a b : Tree) → operate n 4 (a ∷ b ∷ []) ≡ Value (Pair a b)
+unfolding applied operator_of
+pair_operates n a b = refl

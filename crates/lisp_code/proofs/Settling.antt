@@ -1,7 +1,5 @@
 -- Where no inline reaches itself, some depth of inlines is enough for the code.
 use Rattle.std.proofs.Common.{◌≡◌, ℕ, zero, suc, ◌+◌, ◌≤◌, inl, inr, Bool, true, false, ◌||◌, cond, List, [], ◌∷◌, ◌++◌, length, Option, Some, None, Ok, Err, bytes_eq, refl, sym, ap, ap₂, ◌∙◌, subst, arith}
-use Rattle.clvm_spec.specs.Tree.{Tree}
-use Rattle.clvm_spec.specs.Currying.{quote_of}
 use Rattle.lisp_spec.specs.Forms.{Form}
 use Rattle.lisp_spec.specs.Modules.{Definition, definition_named, constant_named}
 use Rattle.lisp_spec.specs.ModuleFaults.{Judged, is_among}
@@ -15,8 +13,8 @@ use Rattle.std.proofs.lemmas.Bool.{cases_Bool}
 use Rattle.lisp_spec.proofs.CycleProofs.{same_is}
 use Rattle.lisp_spec.proofs.NestingProofs.{Shallow, shallow}
 use Rattle.lisp_code.specs.Names.{Names}
-use Rattle.lisp_code.specs.Pieces.{operator_code, path_code, failing, pair_code, list_code, if_code}
-use Rattle.lisp_code.specs.Code.{index_of, function_call_code, constant_code, name_code, body_code, inline_code, expression_code, operand_codes, template_code}
+use Rattle.lisp_code.specs.Codes.{Code, Constant, Path, fails, pair_of, list_of, operation_of, choice_of, call_of}
+use Rattle.lisp_code.specs.Code.{index_of, constant_code, name_code, body_code, inline_code, expression_code, operand_codes, template_code}
 use Rattle.lisp_code.proofs.Eventually.{Eventually}
 use Rattle.lisp_code.proofs.Making.{Making, further_of}
 
@@ -55,13 +53,13 @@ unfolding Steady Eventually
 steady_limit y s = (y s.0, (s.0, λ more le. s.1 more le))
 
 module _ (it : Making) where
-  abbrev at_depth : Expression → Names → ℕ → Tree
+  abbrev at_depth : Expression → Names → ℕ → Code
   at_depth e names b = expression_code it.source (further_of it b) e names
 
-  abbrev operands_at_depth : Operands → Names → ℕ → List Tree
+  abbrev operands_at_depth : Operands → Names → ℕ → List Code
   operands_at_depth operands names b = operand_codes it.source (further_of it b) operands names
 
-  abbrev template_at_depth : Template → Names → ℕ → Tree
+  abbrev template_at_depth : Template → Names → ℕ → Code
   template_at_depth t names b = template_code it.source (further_of it b) t names
 
   abbrev Settles : Expression → Names → Type 0
@@ -101,7 +99,7 @@ module _ (it : Making) where
   part_steady : (path : List Side) (e : Expression) (names : Names) → Steady (at_depth e names) → Steady (at_depth (part_of path e) names)
   part_steady [] e names s = s
   part_steady (side ∷ path) e names s =
-      part_steady path (Operation (step_code side) (Operand e NoMore)) names (steady_map (λ code. operator_code (step_code side) (code ∷ [])) (at_depth e names) s)
+      part_steady path (Operation (step_code side) (Operand e NoMore)) names (steady_map (λ code. operation_of (step_code side) (code ∷ [])) (at_depth e names) s)
 
   codes_steady : (operands : Operands) (names : Names) → AllSteady operands names → Steady (operands_at_depth operands names)
   codes_steady NoMore names s = steady_same []
@@ -113,7 +111,7 @@ module _ (it : Making) where
 
   operand_good : (path : List Side) (operands : Operands) (names : Names) → AllSteady operands names → GoodExpression (operand_at path operands) names
   unfolding GoodExpression
-  operand_good [] operands names s = settles (Listing operands) names (steady_map list_code (operands_at_depth operands names) (codes_steady operands names s))
+  operand_good [] operands names s = settles (Listing operands) names (steady_map list_of (operands_at_depth operands names) (codes_steady operands names s))
   operand_good (side ∷ path) NoMore names s = tt
   operand_good (ToFirst ∷ path) (Operand first more) names s = settles (part_of path first) names (part_steady path first names s.0)
   operand_good (ToRest ∷ path) (Operand first more) names s = operand_good path more names s.1
@@ -165,37 +163,37 @@ module _ (it : Making) (depth : ℕ) where
     body_steady : (name : List ℕ) → Shallow it.source depth name → (f : Definition) → definition_named name it.source.inlines ≡ Some f → (names : Names) → Good it names →
         (read : Judged Expression) → body_of it.source f.params f.body ≡ read → Steady (λ b. body_code (further_of it b) read names)
     body_steady name s f is names g (Ok e) reads = steady_map it.mark (λ b. it.made b e names) (lower name s f is e reads names g)
-    body_steady name s f is names g (Err first) reads = steady_same failing
+    body_steady name s f is names g (Err first) reads = steady_same fails
 
     inline_steady : (name : List ℕ) → Shallow it.source depth name → (operands : Operands) (names : Names) → AllSteady it operands names → (f : Option Definition) → definition_named name it.source.inlines ≡ f →
         Steady (λ b. inline_code it.source (further_of it b) operands names f)
-    inline_steady name s operands names each None is = steady_same failing
+    inline_steady name s operands names each None is = steady_same fails
     inline_steady name s operands names each (Some f) is =
         body_steady name s f is (inline_environment f.params operands names) (inline_good it (parameters f.params) operands names each) (body_of it.source f.params f.body) refl
 
     name_steady : (name : List ℕ) (d : Binding (List Side)) → GoodBinding it d → Steady (λ b. name_code it.source (further_of it b) name d)
-    name_steady name (ToFound path) g = steady_same (path_code (ToRest ∷ path))
-    name_steady name ToNoStep g = steady_same failing
+    name_steady name (ToFound path) g = steady_same (Path (ToRest ∷ path))
+    name_steady name ToNoStep g = steady_same fails
     name_steady name (ToExpression e there) g = steady_map it.mark (λ b. it.made b e there) g
     name_steady name ToNothing g = steady_same (constant_code (constant_named name it.source.constants))
 
     choice_steady : (t a b : Expression) (names : Names) → Steady (at_depth it t names) → Steady (at_depth it a names) → Steady (at_depth it b names) → Steady (at_depth it (Choice t a b) names)
     choice_steady t a b names p q r =
-        steady_two {A = Tree → Tree} (λ make code. make code) (λ n code. if_code (at_depth it t names n) (at_depth it a names n) code) (at_depth it b names)
-        (steady_two {C = Tree → Tree} if_code (at_depth it t names) (at_depth it a names) p q) r
+        steady_two {A = Code → Code} (λ make code. make code) (λ n code. choice_of (at_depth it t names n) (at_depth it a names n) code) (at_depth it b names)
+        (steady_two {C = Code → Code} choice_of (at_depth it t names) (at_depth it a names) p q) r
 
     mutual
       expression_steady : (e : Expression) (names : Names) → Good it names → ShallowNames (inlines_called e) → Steady (at_depth it e names)
-      expression_steady (Literal tree) names g s = steady_same (quote_of tree)
+      expression_steady (Literal tree) names g s = steady_same (Constant tree)
       expression_steady (Name name) names g s = name_steady name (binding_of name names) (good_binding it name names g)
       expression_steady (Choice condition second third) names g s =
           let later = behind (inlines_called condition) (inlines_called second ++ inlines_called third) s in
           choice_steady condition second third names (expression_steady condition names g (front (inlines_called condition) (inlines_called second ++ inlines_called third) s))
           (expression_steady second names g (front (inlines_called second) (inlines_called third) later)) (expression_steady third names g (behind (inlines_called second) (inlines_called third) later))
-      expression_steady (Listing operands) names g s = steady_map list_code (operands_at_depth it operands names) (codes_steady it operands names (operands_steady operands names g s))
-      expression_steady (Operation code operands) names g s = steady_map (operator_code code) (operands_at_depth it operands names) (codes_steady it operands names (operands_steady operands names g s))
+      expression_steady (Listing operands) names g s = steady_map list_of (operands_at_depth it operands names) (codes_steady it operands names (operands_steady operands names g s))
+      expression_steady (Operation code operands) names g s = steady_map (operation_of code) (operands_at_depth it operands names) (codes_steady it operands names (operands_steady operands names g s))
       expression_steady (FunctionCall name operands) names g s =
-          steady_map (function_call_code (index_of name it.source.functions)) (operands_at_depth it operands names) (codes_steady it operands names (operands_steady operands names g s))
+          steady_map (call_of (index_of name it.source.functions)) (operands_at_depth it operands names) (codes_steady it operands names (operands_steady operands names g s))
       expression_steady (InlineCall name operands) names g s =
           inline_steady name (s name (among_first name (called_by_operands operands))) operands names (operands_steady operands names g (behind (name ∷ []) (called_by_operands operands) s)) (definition_named name it.source.inlines) refl
       expression_steady (Filled template) names g s = template_steady template names g s
@@ -206,9 +204,9 @@ module _ (it : Making) (depth : ℕ) where
           (expression_steady first names g (front (inlines_called first) (called_by_operands more) s), operands_steady more names g (behind (inlines_called first) (called_by_operands more) s))
 
       template_steady : (t : Template) (names : Names) → Good it names → ShallowNames (called_by_template t) → Steady (template_at_depth it t names)
-      template_steady (Plain tree) names g s = steady_same (quote_of tree)
+      template_steady (Plain tree) names g s = steady_same (Constant tree)
       template_steady (Both first rest) names g s =
-          steady_two pair_code (template_at_depth it first names) (template_at_depth it rest names)
+          steady_two pair_of (template_at_depth it first names) (template_at_depth it rest names)
           (template_steady first names g (front (called_by_template first) (called_by_template rest) s)) (template_steady rest names g (behind (called_by_template first) (called_by_template rest) s))
       template_steady (Unquoted e) names g s = expression_steady e names g s
 
@@ -236,5 +234,5 @@ module _ (it : Making) (ends : HasNoCycle it.source) where
   all_good (Astray name others) = all_good others
   all_good (Stands name e there others) = (good_settles e there (all_good there), all_good others)
 
-  pub each_settles : (e : Expression) (names : Names) → (code : Tree) × Eventually (λ b. it.made b e names) code
+  pub each_settles : (e : Expression) (names : Names) → (code : Code) × Eventually (λ b. it.made b e names) code
   each_settles e names = steady_limit (λ b. it.made b e names) (good_settles e names (all_good names))

@@ -10,6 +10,7 @@ use Rattle.lisp_spec.specs.ModuleLaws.{AreBound}
 use Rattle.lisp_spec.specs.CycleLaws.{HasNoCycle}
 use Rattle.lisp_spec.specs.ExpressionWeights.{module_bound}
 use Rattle.lisp_code.specs.Names.{Names}
+use Rattle.lisp_code.specs.Codes.{Code, Other, tree_of}
 use Rattle.lisp_code.specs.Code.{Codes, expression_code, whole_code}
 
 -- These are codes of all expressions, with whatever names: each is made of those that it goes on with.
@@ -28,11 +29,13 @@ pub record HasCode (source : Module) : Type 0 where
 abbrev pub ModulesHaveCode : Type 0
 ModulesHaveCode = (source : Module) → AreBound source → HasNoCycle source → HasCode source
 
--- Trees that are like codes, but with one pair more around each code that an expression goes on with. So the tree of an
--- expression has more nodes than all those together of what its code is made of: a measure of the work. Only `qq` and
--- `unquote` add none, and have the tree of their operand.
+-- Codes that are like those of a module, but with one pair more around each that an expression goes on with. So the tree of
+-- an expression has more nodes than all those together of the codes that it goes on with: a measure of how inlines nest.
+abbrev pub marked : Code → Code
+marked code = Other (Pair nil (tree_of code))
+
 abbrev pub AreMeasured : Module → Codes → Type 0
-AreMeasured source measured = (e : Expression) (names : Names) → measured e names ≡ expression_code source (λ e names. Pair nil (measured e names)) e names
+AreMeasured source measured = (e : Expression) (names : Names) → measured e names ≡ expression_code source (λ e names. marked (measured e names)) e names
 
 -- Where no inline reaches itself, that work ends.
 abbrev pub WorkEnds : Type 0

@@ -1,5 +1,6 @@
 pub mod Paths
 pub mod Names
 pub mod Pieces
+pub mod Codes
 pub mod Code
 pub mod CodeLaws

@@ -2,7 +2,7 @@
 -- Source: this project's own, over the operators of the CLVM reference.
 use Rattle.std.specs.Prelude.{ℕ, zero, suc, List, [], ◌∷◌}
 use Rattle.clvm_spec.specs.declared.op_codes.TheConstants.{APPLY, CHOICE, NEW_PAIR, RAISE}
-use Rattle.clvm_spec.specs.Tree.{Tree, Atom, nil}
+use Rattle.clvm_spec.specs.Tree.{Tree, Atom}
 use Rattle.lisp_spec.specs.Parameters.{Side, ToFirst, ToRest}
 pub use Rattle.clvm_spec.specs.Currying.{operator_code}
 use Rattle.clvm_spec.specs.Currying.{quote_of}
@@ -20,11 +20,6 @@ failing = operator_code RAISE []
 abbrev pub pair_code : Tree → Tree → Tree
 pair_code first rest = operator_code NEW_PAIR (first ∷ rest ∷ [])
 
--- `(c A1 (c A2 .. (q)))`
-abbrev pub list_code : List Tree → Tree
-list_code [] = quote_of nil
-list_code (first ∷ more) = pair_code first (list_code more)
-
 -- `(a (i TEST (q . THEN) (q . ELSE)) 1)`: only one of the two is run.
 abbrev pub if_code : Tree → Tree → Tree → Tree
 if_code test then_part else_part = operator_code APPLY (operator_code CHOICE (test ∷ quote_of then_part ∷ quote_of else_part ∷ []) ∷ path_code [] ∷ [])
@@ -33,7 +28,3 @@ if_code test then_part else_part = operator_code APPLY (operator_code CHOICE (te
 abbrev pub list_path : ℕ → List Side
 list_path zero = ToFirst ∷ []
 list_path (suc k) = ToRest ∷ list_path k
-
--- `(a FUNCTION (c 2 OPERANDS))`: a function's code runs on the same list of codes, with the list of the operands' values.
-abbrev pub call_code : ℕ → List Tree → Tree
-call_code k operands = operator_code APPLY (path_code (ToFirst ∷ list_path k) ∷ pair_code (path_code (ToFirst ∷ [])) (list_code operands) ∷ [])
