@@ -1,6 +1,6 @@
 -- What the pieces of code give by the plain evaluation.
-use Rattle.std.proofs.Common.{◌≡◌, ℕ, zero, suc, ◌+◌, ◌==◌, false, cond, List, [], ◌∷◌, ◌++◌, Option, Some, None, refl, sym, ap, ◌∙◌, subst, arith}
-use Rattle.clvm_spec.specs.Tree.{Tree, Atom, Pair, nil, list_tree}
+use Rattle.std.proofs.Common.{◌≡◌, ℕ, zero, suc, ◌==◌, false, cond, List, [], ◌∷◌, ◌++◌, Option, Some, None, refl, sym, ap, ◌∙◌, arith}
+use Rattle.clvm_spec.specs.Tree.{Tree, Atom, Pair, list_tree}
 use Rattle.clvm_spec.specs.ProperList.{elements}
 use Rattle.clvm_spec.specs.Operators.{is_nil}
 use Rattle.clvm_spec.specs.OperatorTable.{applied, operator_of}

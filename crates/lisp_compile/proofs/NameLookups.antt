@@ -1,13 +1,12 @@
 -- What a name stands for, by the path of the parameter of that name, and the codes of what stands at a path.
 use Rattle.std.proofs.Common.{◌≡◌, ℕ, Bool, true, false, cond, List, [], ◌∷◌, ◌++◌, Some, None, Option, option_map, find, bytes_eq, refl, ap, ◌∙◌}
-use Rattle.clvm_spec.specs.Tree.{Tree}
 use Rattle.lisp_spec.specs.Forms.{Form}
-use Rattle.lisp_spec.specs.Parameters.{Side, Parameter, parameters, path_of}
+use Rattle.lisp_spec.specs.Parameters.{Side, ToFirst, ToRest, Parameter, parameters, path_of}
 use Rattle.lisp_spec.specs.Expressions.{Expression, Operation, Operands, NoMore, Operand}
 use Rattle.lisp_spec.specs.Environments.{Binding, ToFound, ToNoStep, ToExpression, ToNothing, binding_of, all_bound, step_code, part_of, operand_at, standing, expressions_bound, inline_environment}
 use Rattle.lisp_code.specs.Names.{Names, function_names}
-use Rattle.lisp_code.specs.Pieces.{operator_code}
-use Rattle.lisp_compile.specs.Jobs.{Coding, part_code}
+use Rattle.lisp_code.specs.Codes.{Code, step_of, operation_of}
+use Rattle.lisp_compile.specs.Coding.{Coding, part_code}
 use Rattle.lisp_compile.proofs.CodingLaws.{code_operation}
 
 abbrev pub bound_by_path : Option (List Side) → Binding (List Side)
@@ -58,12 +57,16 @@ module _ (operands : Operands) (there : Names) where
 
 -- ---- the codes of parts
 
+operated : (side : Side) (code : Code) → operation_of (step_code side) (code ∷ []) ≡ step_of side code
+operated ToFirst code = refl
+operated ToRest code = refl
+
 pub code_part : (it : Coding) (path : List Side) (e : Expression) (names : Names) → it.code (part_of path e) names ≡ part_code path (it.code e names)
 code_part it [] e names = refl
 code_part it (side ∷ path) e names =
-    code_part it path (Operation (step_code side) (Operand e NoMore)) names ∙ ap (part_code path) (code_operation it names (step_code side) (Operand e NoMore))
+    code_part it path (Operation (step_code side) (Operand e NoMore)) names ∙ ap (part_code path) (code_operation it names (step_code side) (Operand e NoMore) ∙ operated side (it.code e names))
 
 -- Of a part the last step is outside.
-pub part_code-push : (path : List Side) (side : Side) (tree : Tree) → part_code (path ++ side ∷ []) tree ≡ operator_code (step_code side) (part_code path tree ∷ [])
-part_code-push [] side tree = refl
-part_code-push (s ∷ path) side tree = part_code-push path side (operator_code (step_code s) (tree ∷ []))
+pub part_code-push : (path : List Side) (side : Side) (code : Code) → part_code (path ++ side ∷ []) code ≡ step_of side (part_code path code)
+part_code-push [] side code = refl
+part_code-push (s ∷ path) side code = part_code-push path side (step_of s code)

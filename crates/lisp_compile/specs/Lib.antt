@@ -1,4 +1,3 @@
 pub mod Sides
 pub mod Pieces
-pub mod Jobs
-pub mod Plans
+pub mod Coding
