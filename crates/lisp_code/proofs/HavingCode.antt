@@ -20,6 +20,7 @@ use Rattle.lisp_code.proofs.Making.{each_marked, Making}
 use Rattle.lisp_code.proofs.Settling.{each_settles}
 use Rattle.lisp_code.proofs.Limits.{body_limit, limit_is_its_step}
 use Rattle.lisp_code.proofs.Agreed.{code_agrees, code_fails_alike}
+use Rattle.lisp_code.proofs.Lengths.{short_spelled}
 use Rattle.lisp_code.proofs.Bounds.{module_fits}
 
 module _ (it : Making) (ends : HasNoCycle it.source) where
@@ -68,12 +69,14 @@ pub modules_have_code : ModulesHaveCode
 modules_have_code source bound ends =
     let code = last_made (codes_of source) ends in
     let at = settled_code source (whole_code source code) (module_limit source code (last_limits (codes_of source) ends)) in
+    let within : length (spelling (whole_code source code)) ≤ module_bound source = subst (λ code. length (spelling code) ≤ module_bound source) at.2 (module_fits source ends bound at.0) in
     record {
       code = code;
       are_codes = last_step (codes_of source) ends;
       agrees = subst (Agrees source) at.2 (code_agrees source at.0 at.1);
       fails = subst (FailsAlike source) at.2 (code_fails_alike source at.0 at.1);
-      within = subst (λ code. length (spelling code) ≤ module_bound source) at.2 (module_fits source ends bound at.0);
+      within = within;
+      spelled = λ short. short_spelled (whole_code source code) (module_bound source) within short;
     }
 
 -- ---- the work

@@ -6,7 +6,7 @@ use Rattle.std.proofs.lemmas.Int.Digits.{length-digits_of-le, number_digits_of, 
 use Rattle.clvm_spec.specs.Numbers.{unsigned}
 use Rattle.lisp_spec.specs.Environments.{step_code}
 use Rattle.clvm_spec.specs.Tree.{Tree, Atom, Pair, nil, list_tree}
-use Rattle.clvm_spec.specs.Spelling.{prefix, spelling}
+use Rattle.clvm_spec.specs.Spelling.{prefix, spelling, IsPrefixed, HasSpelling}
 use Rattle.lisp_spec.specs.Weights.{tree_weight}
 use Rattle.lisp_spec.specs.Parameters.{Side, ToFirst, ToRest}
 use Rattle.lisp_spec.specs.Modules.{Definition}
@@ -151,6 +151,13 @@ least_atom : (bytes : List ℕ) → length bytes ≤ size (Atom bytes)
 least_atom [] = omega arith
 least_atom (b ∷ []) = cond_both (ltb b 0x80) _ _ (λ xs. 1 ≤ length xs) (λ e. omega arith) (λ e. omega arith)
 least_atom (b ∷ c ∷ bytes) = let l = length-append (prefix (length (b ∷ c ∷ bytes))) (b ∷ c ∷ bytes) in omega arith
+
+-- A tree that is short enough has a spelling.
+pub short_spelled : (tree : Tree) (bound : ℕ) → size tree ≤ bound → IsPrefixed bound → HasSpelling tree
+short_spelled (Atom bytes) bound h short = let l = least_atom bytes in omega arith
+short_spelled (Pair a b) bound h short =
+    let p = size_pair a b in
+    (short_spelled a bound (omega arith) short, short_spelled b bound (omega arith) short)
 
 size_longer : (path : List Side) (side : Side) → size (path_code (path ++ side ∷ [])) ≤ 6 + size (path_code path)
 size_longer path side =

@@ -2,7 +2,7 @@
 -- the crates above.
 use Rattle.std.specs.Prelude.{◌≡◌, ◌≤◌, length}
 use Rattle.clvm_spec.specs.Tree.{Pair, nil}
-use Rattle.clvm_spec.specs.Spelling.{spelling}
+use Rattle.clvm_spec.specs.Spelling.{spelling, IsPrefixed, HasSpelling}
 use Rattle.lisp_spec.specs.Modules.{Module}
 use Rattle.lisp_spec.specs.Expressions.{Expression}
 use Rattle.lisp_spec.specs.Agreement.{Agrees, FailsAlike}
@@ -17,13 +17,15 @@ use Rattle.lisp_code.specs.Code.{Codes, expression_code, whole_code}
 abbrev pub AreCodes : Module → Codes → Type 0
 AreCodes source code = (e : Expression) (names : Names) → code e names ≡ expression_code source code e names
 
--- codes whose whole agrees with the module, fails where it fails, and has a spelling no longer than the module's bound
+-- Codes whose whole agrees with the module, fails where it fails, and is no longer than the module's bound. It has a spelling
+-- where each atom within the bound has one.
 pub record HasCode (source : Module) : Type 0 where
   pub code : Codes
   pub are_codes : AreCodes source code
   pub agrees : Agrees source (whole_code source code)
   pub fails : FailsAlike source (whole_code source code)
   pub within : length (spelling (whole_code source code)) ≤ module_bound source
+  pub spelled : IsPrefixed (module_bound source) → HasSpelling (whole_code source code)
 
 -- Where each body is an expression and no inline reaches itself there are such codes.
 abbrev pub ModulesHaveCode : Type 0
