@@ -4,6 +4,7 @@ ghost use Rattle.coin_facts.specs.CoinId.{coin_id};
 ghost use Rattle.chain_spec.specs.Chain.{look_up, peak_of, is_in_chain, ledger_of};
 ghost use Rattle.coin_store.specs.DistinctIds.{HasDistinctIds};
 
+use crate::Coins;
 use chain_spec::{Peak, Record};
 use coin_facts::{Coin, Hash32, OutOfMemory};
 use indexmap::IndexMap;
@@ -116,6 +117,23 @@ impl Store {
         ensures { option_copied result ≡ look_up (ledger_of self.now) id.now }
     {
         self.records.get(id)
+    }
+}
+
+impl Coins for Store {
+    ghost seen = { ledger_of };
+
+    fn genesis(&self) -> Hash32 {
+        self.genesis
+    }
+
+    fn peak(&self) -> Peak {
+        let _ = &self.coins;
+        Store::peak(self)
+    }
+
+    fn look_up(&self, id: &Hash32) -> Option<&Record> {
+        Store::look_up(self, id)
     }
 }
 

@@ -1,0 +1,9 @@
+pub mod AmountLaws
+pub mod CostLaws
+pub mod FlatLaws
+pub mod NewCoinLaws
+pub mod PlaceLaws
+pub mod RepeatLaws
+pub mod SignatureLaws
+pub mod TogetherLaws
+pub mod VerdictLaws
