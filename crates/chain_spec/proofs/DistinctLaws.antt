@@ -67,7 +67,7 @@ new-ids ledger (id ∷ ids) e =
     none_there true rest e = cc
     none_there false rest e = (refl, e)
 
-pub one-block : (ledger : Ledger) (block : Connected) → CanConnect ledger block → IsDistinct is_same_id (ids_of ledger.records) → IsDistinct is_same_id (ids_of (after_block ledger block).records)
+one-block : (ledger : Ledger) (block : Connected) → CanConnect ledger block → IsDistinct is_same_id (ids_of ledger.records) → IsDistinct is_same_id (ids_of (after_block ledger block).records)
 one-block ledger block can distinct =
     let height = suc ledger.peak.height in
     let made = map (made_at height block.seconds) block.created in

@@ -19,7 +19,7 @@ use Rattle.chain_spec.proofs.LookLaws.{untouched}
 
 -- ---- chains
 
-pub after-both : (ledger : Ledger) (blocks more : List Connected) → after_blocks ledger (blocks ++ more) ≡ after_blocks (after_blocks ledger blocks) more
+after-both : (ledger : Ledger) (blocks more : List Connected) → after_blocks ledger (blocks ++ more) ≡ after_blocks (after_blocks ledger blocks) more
 after-both ledger [] more = refl
 after-both ledger (block ∷ blocks) more = after-both (after_block ledger block) blocks more
 

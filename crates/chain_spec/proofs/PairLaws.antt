@@ -15,10 +15,10 @@ use Rattle.chain_spec.specs.ChainLaws.{ids_of}
 use Rattle.chain_spec.specs.ChangeLaws.{is_of, PairsStand}
 use Rattle.chain_spec.proofs.LookLaws.{same-id}
 
-abbrev pub id_of : Record → Hash32
+abbrev id_of : Record → Hash32
 id_of one = coin_id one.coin
 
-abbrev pub find_id : Hash32 → List Record → Option Record
+abbrev find_id : Hash32 → List Record → Option Record
 find_id id records = find (λ found. has_id id found.coin) records
 
 itself : (id : Hash32) → is_same_id id id ≡ true
@@ -26,7 +26,7 @@ itself id = (bytes_eq-Decides id.bytes id.bytes).1 refl
 
 -- ---- records that are found by their ids
 
-unfoldable pub IsFoundIn : List Record → Record → Type 0
+IsFoundIn : List Record → Record → Type 0
 IsFoundIn records one = find_id (id_of one) records ≡ Some one
 
 found-behind : (first : Record) (records list : List Record) → AllByRecursion (λ id. is_same_id (id_of first) id ≡ false) (ids_of list) → AllByRecursion (IsFoundIn records) list → AllByRecursion (IsFoundIn (first ∷ records)) list
@@ -35,7 +35,7 @@ found-behind first records [] apart found = tt
 found-behind first records (one ∷ list) apart found =
     (ap (λ test. cond test (Some first) (find_id (id_of one) records)) apart.0 ∙ found.0, found-behind first records list apart.1 found.1)
 
-pub all-found : (records : List Record) → IsDistinct is_same_id (ids_of records) → AllByRecursion (IsFoundIn records) records
+all-found : (records : List Record) → IsDistinct is_same_id (ids_of records) → AllByRecursion (IsFoundIn records) records
 unfolding IsFoundIn IsDistinct
 all-found [] distinct = tt
 all-found (one ∷ records) distinct =
