@@ -4,3 +4,4 @@ pub mod NumberLaws
 pub mod OutputLaws
 pub mod RunLaws
 pub mod ShapeLaws
+pub mod SpelledLaws

@@ -1,6 +1,7 @@
 pub mod Checks
 pub mod Faults
 pub mod Forms
+pub mod Heads
 pub mod Layers
 pub mod Outputs
 pub mod ShapeCode

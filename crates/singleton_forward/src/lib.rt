@@ -7,9 +7,11 @@ mod found;
 mod layer;
 mod outline;
 mod outputs;
+mod rewriting;
 mod run;
 mod solution;
 
 pub use fault::ShapeFault;
 pub use found::Shape;
+pub use rewriting::rewrite;
 pub use run::{shape, shape_of_facts};
