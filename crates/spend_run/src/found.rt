@@ -1,10 +1,13 @@
-ghost use Rattle.std.specs.Prelude.{◌≡◌, Ok};
+ghost use Rattle.std.specs.Prelude.{◌≡◌, Ok, IfOk};
 ghost use Rattle.judge_spec.specs.declared.limits.TheConstants.{GREATEST_MAX_COST};
 ghost use Rattle.judge_spec.specs.Facts.{facts_of};
 
+use crate::copies::{copy_conditions, copy_spend};
 use block_form::Spend;
+use coin_facts::OutOfMemory;
 use cond_parse::Conditions;
 use small_lists::ShortList;
+use std::alloc::Global;
 use std::marker::Model;
 
 /// A spend that breaks none of the rules 3 to 10 with the greatest limit, what its run and its conditions cost together,
@@ -51,5 +54,18 @@ impl Facts {
         ensures { result.now ≡ self.now.conditions }
     {
         &self.conditions
+    }
+
+    /// Equal facts.
+    pub fn copy(&self, alloc: Global) -> Result<Facts, OutOfMemory>
+        ensures { IfOk result (λ copy. copy ≡ self.now) }
+    {
+        let spend = copy_spend(alloc, &self.spend)?;
+        let conditions = copy_conditions(alloc, &self.conditions)?;
+        Ok(Facts {
+            spend,
+            cost: self.cost,
+            conditions,
+        })
     }
 }

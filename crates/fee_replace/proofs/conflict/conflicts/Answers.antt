@@ -1,4 +1,4 @@
-use Rattle.std.proofs.Common.{◌≡◌, ◌+◌, ◌++◌, ◌∷◌, ◌≤◌, [], length, take, get_or, vec_capacity, sym, ap, ◌∙◌, length-take, arith}
+use Rattle.std.proofs.Common.{◌≡◌, ◌+◌, ◌++◌, ◌≤◌, length, take, get_or, vec_capacity, sym, ap, ◌∙◌, length-take, arith}
 use Rattle.std.proofs.lemmas.List.{take_more}
 use Rattle.pool_spec.specs.Replacement.{conflicts, do_conflict}
 use Rattle.fee_replace.proofs.PlaceLaws.{place_if, count, one-more, listed-more, listed-same}
