@@ -1,2 +1,4 @@
-pub mod DeedLaws
 pub mod ListLaws
+pub mod RuleLaws
+pub mod TallyLaws
+pub mod WantLaws

@@ -2,7 +2,7 @@
 use Rattle.std.proofs.Common.{◌≡◌, ℕ, ◌+◌, ◌||◌, not, nat_lt, Bool, true, false, cond, Some, None, List, [], ◌∷◌, ◌++◌, length, map, refl, ap, sym, ◌∙◌, arith}
 use Rattle.std.specs.Prelude.{position, count_by}
 use Rattle.std.specs.List.{list_any, sum_by, flat_map, position_or_len}
-use Rattle.std.proofs.lemmas.List.{map-append, length-map}
+use Rattle.std.proofs.lemmas.List.{append-nil, append_assoc, map-append, length-map}
 use Rattle.std.proofs.lemmas.List.Folds.{list_any-append}
 use Rattle.std.proofs.lemmas.List.Sums.{sum_by-append, sum_by-cons}
 
@@ -20,6 +20,10 @@ pub sum-flat : {A B : Type 0} (g : B → ℕ) (f : A → List B) (xs : List A) �
 sum-flat g f [] = refl
 sum-flat g f (x ∷ xs) =
     sum_by-append g (f x) (flat_map f xs) ∙ ap (λ n. sum_by g (f x) + n) (sum-flat g f xs) ∙ sym (sum_by-cons (λ y. sum_by g (f y)) x xs)
+
+pub flat-push : {A B : Type 0} (f : A → List B) (xs : List A) (x : A) → flat_map f (xs ++ x ∷ []) ≡ flat_map f xs ++ f x
+flat-push f [] x = append-nil (f x)
+flat-push f (first ∷ xs) x = ap (λ l. f first ++ l) (flat-push f xs x) ∙ sym (append_assoc (f first) (flat_map f xs) (f x))
 
 -- ---- what is kept of each
 

@@ -1,26 +1,37 @@
--- What a tally keeps of a spend: its coin, and what its conditions make for the list and ask of it. Source: this project's own.
-use Rattle.std.specs.Prelude.{ℕ, List, [], ◌∷◌, map}
-use Rattle.std.specs.List.{sum_by, flat_map}
-use Rattle.coin_facts.specs.declared.hash32.Hash32.{Hash32}
+-- What one spend asks of the list that it stands in, and makes for it. Source: this project's own.
+use Rattle.std.specs.Prelude.{ℕ, List, [], ◌∷◌}
 use Rattle.coin_facts.specs.declared.coin.Coin.{Coin}
 use Rattle.coin_facts.specs.CoinId.{coin_id}
 use Rattle.cond_spec.specs.declared.condition.Condition.{Condition}
-use Rattle.cond_spec.specs.declared.condition.Condition.TheVariants.{CreateCoin, ReserveFee, AssertCoinAnnouncement, AssertPuzzleAnnouncement, AssertConcurrentSpend, AssertConcurrentPuzzle, AssertEphemeral}
-use Rattle.cond_spec.specs.Acts.{Acts, coin_made, coin_announcement, puzzle_announcement}
-use Rattle.cond_spec.specs.Messages.{Message, sent, received}
+use Rattle.cond_spec.specs.declared.condition.Condition.TheVariants.{CreateCoin, ReserveFee, CreateCoinAnnouncement, AssertCoinAnnouncement, CreatePuzzleAnnouncement, AssertPuzzleAnnouncement, AssertConcurrentSpend, AssertConcurrentPuzzle, AssertEphemeral}
+use Rattle.cond_spec.specs.Acts.{Acts, announcement}
+use Rattle.cond_rules.specs.declared.want.Want.{Want}
+use Rattle.cond_rules.specs.declared.want.Want.TheVariants.{CoinAnnouncement, PuzzleAnnouncement, Spend, Puzzle, Creation}
 
--- the conditions that ask something of the list
-abbrev pub asked_by : Condition → List Condition
-asked_by (AssertCoinAnnouncement hash) = AssertCoinAnnouncement hash ∷ []
-asked_by (AssertPuzzleAnnouncement hash) = AssertPuzzleAnnouncement hash ∷ []
-asked_by (AssertConcurrentSpend id) = AssertConcurrentSpend id ∷ []
-asked_by (AssertConcurrentPuzzle hash) = AssertConcurrentPuzzle hash ∷ []
-asked_by AssertEphemeral = AssertEphemeral ∷ []
-asked_by _ = []
+-- ---- of one condition
 
--- the id of the created coin
-abbrev pub created_by : Coin → Condition → List Hash32
-created_by coin condition = map coin_id (coin_made coin condition)
+abbrev pub announcement_asked : Coin → Condition → List Want
+announcement_asked coin (AssertCoinAnnouncement hash) = CoinAnnouncement hash ∷ []
+announcement_asked coin (AssertPuzzleAnnouncement hash) = PuzzleAnnouncement hash ∷ []
+announcement_asked coin _ = []
+
+abbrev pub announcement_made : Coin → Condition → List Want
+announcement_made coin (CreateCoinAnnouncement text) = CoinAnnouncement (announcement (coin_id coin) text) ∷ []
+announcement_made coin (CreatePuzzleAnnouncement text) = PuzzleAnnouncement (announcement coin.puzzle_hash text) ∷ []
+announcement_made coin _ = []
+
+abbrev pub spend_asked : Coin → Condition → List Want
+spend_asked coin (AssertConcurrentSpend id) = Spend id ∷ []
+spend_asked coin (AssertConcurrentPuzzle hash) = Puzzle hash ∷ []
+spend_asked coin _ = []
+
+abbrev pub creation_asked : Coin → Condition → List Want
+creation_asked coin AssertEphemeral = Creation (coin_id coin) ∷ []
+creation_asked coin _ = []
+
+abbrev pub creation_made : Coin → Condition → List Want
+creation_made coin (CreateCoin hash amount) = Creation (coin_id (record { parent = coin_id coin; puzzle_hash = hash; amount = amount })) ∷ []
+creation_made coin _ = []
 
 -- what a condition claims of the spent amounts
 abbrev pub claim : Condition → ℕ
@@ -28,27 +39,10 @@ claim (CreateCoin hash amount) = amount
 claim (ReserveFee amount) = amount
 claim _ = 0
 
-pub record Deeds : Type 0 where
-  pub coin : Coin
-  pub asked : List Condition
-  pub coin_announcements : List Hash32
-  pub puzzle_announcements : List Hash32
-  pub created : List Hash32
-  pub sent : List Message
-  pub received : List Message
-  pub claims : ℕ
+-- ---- of the spend itself
 
-abbrev pub deeds_by : Coin → List Condition → Deeds
-deeds_by coin conditions = record {
-  coin = coin;
-  asked = flat_map asked_by conditions;
-  coin_announcements = flat_map (coin_announcement coin) conditions;
-  puzzle_announcements = flat_map (puzzle_announcement coin) conditions;
-  created = flat_map (created_by coin) conditions;
-  sent = flat_map (sent coin) conditions;
-  received = flat_map (received coin) conditions;
-  claims = sum_by claim conditions;
-}
+abbrev pub spend_made : Coin → List Want
+spend_made coin = Spend (coin_id coin) ∷ Puzzle coin.puzzle_hash ∷ []
 
-abbrev pub deeds_of : Acts → Deeds
-deeds_of acts = deeds_by acts.coin acts.conditions
+abbrev pub spends_made : Acts → List Want
+spends_made acts = spend_made acts.coin

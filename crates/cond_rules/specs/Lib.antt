@@ -1,4 +1,11 @@
-pub mod DeedRules
 pub mod Deeds
+pub mod DeedsOf
 pub mod FirstBroken
+pub mod LetterRules
+pub mod Letters
+pub mod Rules
+pub mod Tallied
 pub mod Tallies
+pub mod TallySeen
+pub mod Wants
+pub mod WantsInside

@@ -1,10 +1,11 @@
 //! What one condition of a spend gives to the list: it goes behind what the earlier ones gave.
 ghost use Rattle.std.specs.Prelude.{◌≡◌, ◌++◌, ◌<◌, ◌^◌, OnOk};
-ghost use Rattle.cond_spec.specs.Acts.{announcement, coin_announcement, puzzle_announcement};
+ghost use Rattle.cond_spec.specs.Acts.{announcement};
 ghost use Rattle.cond_spec.specs.Messages.{sent, received};
-ghost use Rattle.cond_rules.specs.Deeds.{asked_by, created_by, claim};
+ghost use Rattle.cond_rules.specs.Deeds.{announcement_asked, announcement_made, spend_asked, creation_asked, creation_made, claim};
 
 use crate::message::{Message, party_of};
+use crate::want::Want;
 use coin_facts::{Coin, Hash32, OutOfMemory};
 use cond_parse::Condition;
 use sha2::{Digest, Sha256};
@@ -22,91 +23,107 @@ fn announcement(by: &Hash32, text: &[u8]) -> Hash32
     }
 }
 
-/// A condition that asks something of the list.
-pub(crate) fn push_asked(
-    asked: &mut Vec<Condition>,
+/// The announcement that is asserted.
+pub(crate) fn push_announcement_asked(
+    asked: &mut Vec<Want>,
+    coin: &Coin,
     condition: &Condition,
 ) -> Result<(), OutOfMemory>
-    ensures { OnOk result (asked.new.items ≡ asked.old.items ++ asked_by condition.now) }
+    ensures { OnOk result (asked.new.items ≡ asked.old.items ++ announcement_asked coin.now condition.now) }
 {
     match condition {
         Condition::AssertCoinAnnouncement(hash) => {
-            asked.push(Condition::AssertCoinAnnouncement(*hash))?;
+            asked.push(Want::CoinAnnouncement(*hash))?;
             Ok(())
         }
         Condition::AssertPuzzleAnnouncement(hash) => {
-            asked.push(Condition::AssertPuzzleAnnouncement(*hash))?;
-            Ok(())
-        }
-        Condition::AssertConcurrentSpend(hash) => {
-            asked.push(Condition::AssertConcurrentSpend(*hash))?;
-            Ok(())
-        }
-        Condition::AssertConcurrentPuzzle(hash) => {
-            asked.push(Condition::AssertConcurrentPuzzle(*hash))?;
-            Ok(())
-        }
-        Condition::AssertEphemeral => {
-            asked.push(Condition::AssertEphemeral)?;
+            asked.push(Want::PuzzleAnnouncement(*hash))?;
             Ok(())
         }
         _ => Ok(()),
     }
 }
 
-/// What is announced as the coin.
-pub(crate) fn push_coin_announcement(
-    made: &mut Vec<Hash32>,
+/// What is announced.
+pub(crate) fn push_announcement_made(
+    made: &mut Vec<Want>,
     coin: &Coin,
     condition: &Condition,
 ) -> Result<(), OutOfMemory>
-    ensures { OnOk result (made.new.items ≡ made.old.items ++ coin_announcement coin.now condition.now) }
+    ensures { OnOk result (made.new.items ≡ made.old.items ++ announcement_made coin.now condition.now) }
 {
     match condition {
         Condition::CreateCoinAnnouncement(text) => {
-            made.push(announcement(&coin.id(), text.as_slice()))?;
+            let hash = announcement(&coin.id(), text.as_slice());
+            made.push(Want::CoinAnnouncement(hash))?;
+            Ok(())
+        }
+        Condition::CreatePuzzleAnnouncement(text) => {
+            let hash = announcement(&coin.puzzle_hash, text.as_slice());
+            made.push(Want::PuzzleAnnouncement(hash))?;
             Ok(())
         }
         _ => Ok(()),
     }
 }
 
-/// What is announced as the puzzle.
-pub(crate) fn push_puzzle_announcement(
-    made: &mut Vec<Hash32>,
+/// The spend that is asked to stand in the list.
+pub(crate) fn push_spend_asked(
+    asked: &mut Vec<Want>,
     coin: &Coin,
     condition: &Condition,
 ) -> Result<(), OutOfMemory>
-    ensures { OnOk result (made.new.items ≡ made.old.items ++ puzzle_announcement coin.now condition.now) }
+    ensures { OnOk result (asked.new.items ≡ asked.old.items ++ spend_asked coin.now condition.now) }
 {
     match condition {
-        Condition::CreatePuzzleAnnouncement(text) => {
-            made.push(announcement(&coin.puzzle_hash, text.as_slice()))?;
+        Condition::AssertConcurrentSpend(id) => {
+            asked.push(Want::Spend(*id))?;
+            Ok(())
+        }
+        Condition::AssertConcurrentPuzzle(hash) => {
+            asked.push(Want::Puzzle(*hash))?;
             Ok(())
         }
         _ => Ok(()),
     }
 }
 
-/// The id of the created coin.
-pub(crate) fn push_created(
-    created: &mut Vec<Hash32>,
+/// The coin itself, where its creation is asked.
+pub(crate) fn push_creation_asked(
+    asked: &mut Vec<Want>,
     coin: &Coin,
     condition: &Condition,
 ) -> Result<(), OutOfMemory>
-    ensures { OnOk result (created.new.items ≡ created.old.items ++ created_by coin.now condition.now) }
+    ensures { OnOk result (asked.new.items ≡ asked.old.items ++ creation_asked coin.now condition.now) }
+{
+    match condition {
+        Condition::AssertEphemeral => {
+            asked.push(Want::Creation(coin.id()))?;
+            Ok(())
+        }
+        _ => Ok(()),
+    }
+}
+
+/// The coin that is created.
+pub(crate) fn push_creation_made(
+    made: &mut Vec<Want>,
+    coin: &Coin,
+    condition: &Condition,
+) -> Result<(), OutOfMemory>
+    ensures { OnOk result (made.new.items ≡ made.old.items ++ creation_made coin.now condition.now) }
 {
     match condition {
         Condition::CreateCoin {
             puzzle_hash,
             amount,
         } => {
-            let made = Coin {
+            let created = Coin {
                 parent: coin.id(),
                 puzzle_hash: *puzzle_hash,
                 amount: *amount,
             };
-            created.push(made.id())?;
+            made.push(Want::Creation(created.id()))?;
             Ok(())
         }
         _ => Ok(()),

@@ -3,10 +3,11 @@
 
 mod deeds;
 mod given;
+mod letters;
 mod message;
-mod rules;
-mod sums;
 mod tally;
+mod want;
+mod wants;
 
 pub use coin_facts::OutOfMemory;
 pub use tally::Tally;

@@ -1,0 +1,21 @@
+-- What a tally keeps of spends. Source: this project's own.
+use Rattle.std.specs.Prelude.{◌≡◌, ◌≤◌, ◌*◌, ◌^◌, length}
+use Rattle.cond_rules.specs.declared.tally.Tally.TheInside.{Inside}
+use Rattle.cond_rules.specs.TallySeen.{Tallied}
+
+abbrev pub seen : Inside → Tallied
+seen tally = record {
+  count = tally.count;
+  announcements = tally.announcements.wanted;
+  spends = tally.spends.wanted;
+  creations = tally.creations.wanted;
+  letters = tally.letters;
+  spent = tally.spent;
+  claims = tally.claims;
+}
+
+-- There are as many spends as are counted, and the sums are small.
+pub record AreSmall (tally : Inside) : Type 0 where
+  pub counted : length tally.letters ≡ tally.count
+  pub spent : tally.spent ≤ tally.count * 2 ^ 64
+  pub claims : tally.claims ≤ tally.count * 2 ^ 96
