@@ -21,19 +21,11 @@ impl<'a> Built<'a> for &'a Value<'a> {
 
     ghost built = { λ value. value.now };
 
-    fn atom(
-        bump: &'a Bump,
-        place: Place,
-        bytes: &'a [u8],
-    ) -> Result<&'a Value<'a>, OutOfMemory> {
+    fn atom(bump: &'a Bump, place: Place, bytes: &'a [u8]) -> Result<&'a Value<'a>, OutOfMemory> {
         Value::atom(bump, place, bytes)
     }
 
-    fn symbol(
-        bump: &'a Bump,
-        place: Place,
-        name: &'a [u8],
-    ) -> Result<&'a Value<'a>, OutOfMemory> {
+    fn symbol(bump: &'a Bump, place: Place, name: &'a [u8]) -> Result<&'a Value<'a>, OutOfMemory> {
         Value::symbol(bump, place, name)
     }
 

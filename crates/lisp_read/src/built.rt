@@ -17,6 +17,11 @@ pub trait Built<'a>: Drop {
     fn symbol(memory: Self::Memory, place: Place, name: &'a [u8]) -> Result<Self, OutOfMemory>
         ensures { IfOk result (λ symbol. built symbol ≡ Symbol place name.now) };
 
-    fn pair(memory: Self::Memory, place: Place, first: Self, rest: Self) -> Result<Self, OutOfMemory>
+    fn pair(
+        memory: Self::Memory,
+        place: Place,
+        first: Self,
+        rest: Self,
+    ) -> Result<Self, OutOfMemory>
         ensures { IfOk result (λ pair. built pair ≡ Pair place (built first) (built rest)) };
 }
