@@ -1,5 +1,3 @@
-pub mod LoadLaws
-pub mod UnloadLaws
 pub mod BindingLaws
 pub mod OperandLaws
 pub mod BodyLaws

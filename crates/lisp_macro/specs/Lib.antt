@@ -1,7 +1,5 @@
 pub mod Nodes
 pub mod Values
-pub mod Loads
-pub mod Unloads
 pub mod Operators
 pub mod MacroCode
 pub mod Defined

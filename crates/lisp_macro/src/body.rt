@@ -10,10 +10,9 @@ ghost use Rattle.lisp_macro.specs.Evaluations.{operand_list, frame_goes, frame_l
 
 use crate::call::Call;
 use crate::fault::Stop;
-use crate::load::load;
 use crate::operators::{Head, Operator, head_at};
 use crate::value::Value;
-use lisp_read::{Form, Place};
+use lisp_read::{Form, Place, copy};
 
 /// What waits for a value.
 #[derive(Clone, Copy)]
@@ -56,7 +55,7 @@ impl<'a> Call<'a> {
             (headed_value (body_value (call_of self.now)) self.now.place (head_of head) (form_of rest.now) turns) (size (form_of rest.now) + 2) result }
     {
         match head {
-            Head::Quotation => Ok(Next::Gives(load(self.alloc, self.bump, rest)?)),
+            Head::Quotation => Ok(Next::Gives(copy(self.alloc, self.bump, rest)?)),
             Head::TemplateOf => {
                 let Some(template) = rest.only() else {
                     return Err(Stop::BadMacro);

@@ -11,12 +11,10 @@ ghost use Rattle.lisp_macro.specs.Faults.{IsMacroFault};
 use crate::MacroFault;
 use crate::call::Call;
 use crate::fault::Stop;
-use crate::load::load;
 use crate::macros::Definition;
-use crate::unload::unload;
 use crate::value::Value;
 use bumpalo::Bump;
-use lisp_read::{Form, Place};
+use lisp_read::{Form, Place, copy};
 use std::alloc::Global;
 
 // The fault of a call at this place whose body stops so.
@@ -41,7 +39,7 @@ fn within_limits<'a>(alloc: Global, place: Place, value: &'a Value<'a>) -> Resul
     if value.is_too_heavy() {
         return Err(MacroFault::TooLarge(place));
     }
-    Ok(unload(alloc, value)?)
+    Ok(copy(alloc, alloc, value)?)
 }
 
 /// What a call gives takes a turn of its own and those of the body. Its faults stand at the place.
@@ -61,7 +59,7 @@ pub(crate) fn call_given(
     }
     *turns -= 1;
     let bump = Bump::new(alloc);
-    let operands = load(alloc, &bump, operands)?;
+    let operands = copy(alloc, &bump, operands)?;
     let call = Call {
         alloc,
         bump: &bump,

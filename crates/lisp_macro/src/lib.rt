@@ -5,13 +5,12 @@ mod body;
 mod call;
 mod fault;
 mod given;
-mod load;
 mod macros;
 mod operators;
 #[cfg(test)]
 mod tests;
-mod unload;
 mod value;
+mod value_copy;
 mod walk;
 
 pub use fault::MacroFault;

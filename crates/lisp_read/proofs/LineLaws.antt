@@ -10,7 +10,7 @@ use Rattle.clvm_spec.specs.Tokens as tokens
 use Rattle.clvm_spec.proofs.ScanLaws.{Less, less_front}
 use Rattle.lisp_read.specs.declared.place.Place.{Place}
 use Rattle.lisp_read.specs.Forms.{Form, Atom, Symbol}
-use Rattle.clvm_spec.specs.Grammar.{Language, Parses, Breaks, InList, is_dots_fault, closed, last_form, opened, form_at, behind, with_rest, list_at, list_within, list_from}
+use Rattle.clvm_spec.specs.Grammar.{most_open, Language, Parses, Breaks, InList, is_dots_fault, closed, last_form, opened, form_at, behind, with_rest, list_at, list_within, list_from}
 use Rattle.clvm_spec.proofs.GrammarLaws.{Shrinks, shrinks_form, shrinks_from, list_step}
 use Rattle.lisp_read.specs.Grammar.{place_in, Places, chialisp, ParsedForm, Read, Reads, Unreadable, with_form, with_forms, forms_at, forms_from}
 use Rattle.lisp_read.specs.Laws.{after, LeavesNothing}
@@ -155,7 +155,7 @@ module _ (lines : List ℕ) where
 
     keeps_opened : (a b : InList Form Place) (depth : ℕ) (from rest : List ℕ) → AllKeep a b → Keeps (opened here a depth from rest) (opened longer b depth (from ++ behind_it) (rest ++ behind_it))
     keeps_opened a b depth from rest all =
-        keeps_if (nat_lt depth 1024) (a (suc depth) (there from) false rest) (Breaks Deep None (there from)) (b (suc depth) (beyond (from ++ behind_it)) false (rest ++ behind_it)) (Breaks Deep None (beyond (from ++ behind_it)))
+        keeps_if (nat_lt depth most_open) (a (suc depth) (there from) false rest) (Breaks Deep None (there from)) (b (suc depth) (beyond (from ++ behind_it)) false (rest ++ behind_it)) (Breaks Deep None (beyond (from ++ behind_it)))
         (subst (λ p. Keeps (a (suc depth) (there from) false rest) (b (suc depth) p false (rest ++ behind_it))) (sym (same from)) (all (suc depth) (there from) false rest)) tt
 
     keeps_form : (a b : InList Form Place) (depth : ℕ) (front other : Front) → AllKeep a b → Follows front other → Keeps (form_at here a depth front) (form_at longer b depth other)

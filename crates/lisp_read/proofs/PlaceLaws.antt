@@ -9,7 +9,7 @@ use Rattle.text_tokens.specs.Ends.{IsEnd, AreEnds}
 use Rattle.text_tokens.proofs.EndLaws.{ends}
 use Rattle.lisp_read.specs.declared.place.Place.{Place}
 use Rattle.lisp_read.specs.Forms.{Form, Atom, Symbol}
-use Rattle.clvm_spec.specs.Grammar.{Language, Parses, Breaks, InList, is_dots_fault, closed, last_form, opened, form_at, behind, with_rest, list_at, list_within, list_from}
+use Rattle.clvm_spec.specs.Grammar.{most_open, Language, Parses, Breaks, InList, is_dots_fault, closed, last_form, opened, form_at, behind, with_rest, list_at, list_within, list_from}
 use Rattle.lisp_read.specs.Grammar.{place_in, chialisp, ParsedForm, Read, Reads, Unreadable, with_form, with_forms, forms_at, forms_within, forms_of}
 use Rattle.lisp_read.specs.Laws.{IsTokenAt, is_token, is_list, IsPlaced, ArePlaced, PlacesAreFirstBytes}
 
@@ -81,7 +81,7 @@ module _ (number : ℕ) (text : List ℕ) where
   good_if false f g hf hg = hg
 
   good_opened : (list : InList Form Place) (depth : ℕ) (from rest : List ℕ) → AllGood list → IsTokenAt number text (there from) Opening → IsEnd rest text → IsGood (opened language list depth from rest)
-  good_opened list depth from rest all at end = good_if (nat_lt depth 1024) (list (suc depth) (there from) false rest) (Breaks Deep None (there from)) (all (suc depth) (there from) false rest at end) tt
+  good_opened list depth from rest all at end = good_if (nat_lt depth most_open) (list (suc depth) (there from) false rest) (Breaks Deep None (there from)) (all (suc depth) (there from) false rest at end) tt
 
   good_form : (list : InList Form Place) (depth : ℕ) (front : Front) → AllGood list → IsGoodFront front → IsGood (form_at language list depth front)
   good_form list depth AtEnd all h = tt

@@ -2,6 +2,7 @@ pub mod Forms
 pub mod FormCode
 pub mod Views
 pub mod Turns
+pub mod Sights
 pub mod Copies
 pub mod FormLists
 pub mod Grammar
