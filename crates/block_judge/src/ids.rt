@@ -53,11 +53,7 @@ pub(crate) fn first_repeat(alloc: Global, ids: &[Hash32]) -> Result<Option<usize
 }
 
 // Adds the id of the coin that a condition makes.
-fn push_made(
-    ids: &mut Vec<Hash32>,
-    coin: &Coin,
-    condition: &Condition,
-) -> Result<(), OutOfMemory>
+fn push_made(ids: &mut Vec<Hash32>, coin: &Coin, condition: &Condition) -> Result<(), OutOfMemory>
     ensures { OnOk result (ids.new.items ≡ ids.old.items ++ ids_made coin.now condition.now) }
 {
     match condition {

@@ -13,6 +13,6 @@ mod together;
 mod verdict;
 
 pub use coin_facts::OutOfMemory;
-pub use judging::{judge, judge_facts};
 pub use judge_spec::limits::GREATEST_MAX_COST;
+pub use judging::{judge, judge_facts};
 pub use verdict::Verdict;

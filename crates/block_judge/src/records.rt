@@ -26,11 +26,7 @@ fn is_unknown<C: Coins>(coins: &C, created: &HashSet<Hash32>, facts: &Facts) -> 
 }
 
 // The first spend of a coin that is neither in the chain nor created.
-fn unknown_coin<C: Coins>(
-    coins: &C,
-    created: &HashSet<Hash32>,
-    list: &[Facts],
-) -> Option<usize>
+fn unknown_coin<C: Coins>(coins: &C, created: &HashSet<Hash32>, list: &[Facts]) -> Option<usize>
     requires { HasIds created.now (created_ids (acts_in (unsigned_on (C.seen coins.now) list.now))) }
     ensures value { result ≡ first_spend is_unknown (unsigned_on (C.seen coins.now) list.now) }
     ensures within { IfSome result (λ place. place < length list.now) }
@@ -118,16 +114,11 @@ fn has_wrong_birth<C: Coins>(coins: &C, created: &HashSet<Hash32>, facts: &Facts
 {
     let id = facts.spend().coin.id();
     let conditions = facts.conditions().as_slice();
-    has_other_birth(coins, &id, conditions)
-        || created.contains(&id) && is_any_at_record(conditions)
+    has_other_birth(coins, &id, conditions) || created.contains(&id) && is_any_at_record(conditions)
 }
 
 // The first spend that says of its coin's birth what it isn't, or looks at the record of a created coin.
-fn wrong_birth<C: Coins>(
-    coins: &C,
-    created: &HashSet<Hash32>,
-    list: &[Facts],
-) -> Option<usize>
+fn wrong_birth<C: Coins>(coins: &C, created: &HashSet<Hash32>, list: &[Facts]) -> Option<usize>
     requires { HasIds created.now (created_ids (acts_in (unsigned_on (C.seen coins.now) list.now))) }
     ensures value { result ≡ first_spend has_wrong_birth (unsigned_on (C.seen coins.now) list.now) }
     ensures within { IfSome result (λ place. place < length list.now) }

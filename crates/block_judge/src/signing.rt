@@ -150,10 +150,26 @@ fn to_sign(
             bound_amount(alloc, genesis, AGG_SIG_AMOUNT, key, text, &[], coin)
         }
         Condition::AggSigPuzzleAmount { key, text } => {
-            bound_amount(alloc, genesis, AGG_SIG_PUZZLE_AMOUNT, key, text, puzzle, coin)
+            bound_amount(
+                alloc,
+                genesis,
+                AGG_SIG_PUZZLE_AMOUNT,
+                key,
+                text,
+                puzzle,
+                coin,
+            )
         }
         Condition::AggSigParentAmount { key, text } => {
-            bound_amount(alloc, genesis, AGG_SIG_PARENT_AMOUNT, key, text, parent, coin)
+            bound_amount(
+                alloc,
+                genesis,
+                AGG_SIG_PARENT_AMOUNT,
+                key,
+                text,
+                parent,
+                coin,
+            )
         }
         Condition::AggSigUnsafe { key, text } => with_key(alloc, key, text, &[], &[], &[]),
         Condition::AggSigMe { key, text } => with_key(

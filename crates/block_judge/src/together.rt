@@ -54,10 +54,7 @@ fn with_creation(creates_too_much: bool, broken: Option<(u8, u32)>) -> Option<Br
 
 /// The first broken of the rules on what spends make and ask of each other.
 #[tactic(auto, using(crate::proofs::TogetherLaws::told_together))]
-pub(crate) fn breach_together(
-    alloc: Global,
-    list: &[Facts],
-) -> Result<Option<Breach>, OutOfMemory>
+pub(crate) fn breach_together(alloc: Global, list: &[Facts]) -> Result<Option<Breach>, OutOfMemory>
     requires { length list.now < 2 ^ 32 }
     ensures { IfOk result (λ breach. breach ≡ breach_together (map acts_of list.now)) }
 {

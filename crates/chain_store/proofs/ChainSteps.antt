@@ -60,14 +60,18 @@ was-unspent ledger block one can found among =
   where
     spendable : (is_unspent (look_up ledger (coin_id one.coin)) || is_among (map coin_id block.created) (coin_id one.coin)) ≡ true
     spendable = some-spendable ledger block block.spent (coin_id one.coin) can.spendable among
+
     created : is_among (map coin_id block.created) (coin_id one.coin) ≡ false
     created = not-created ledger (map coin_id block.created) (coin_id one.coin) one can.new found
+
     unspent : (a b : Bool) → (a || b) ≡ true → b ≡ false → a ≡ true
     unspent true b e apart = refl
     unspent false b e apart = absurd (false≢true (sym apart ∙ e))
+
     by_spent : (spent : Option ℕ) → is_none spent ≡ true → spent ≡ None
     by_spent None e = refl
     by_spent (Some n) e = cc
+
     none : is_unspent (look_up ledger (coin_id one.coin)) ≡ true → one.spent ≡ None
     none e = by_spent one.spent (sym (ap is_unspent found) ∙ e)
 

@@ -75,9 +75,11 @@ mark-first spent id found (one ∷ list) distinct e = by_test (is_same_id id (co
     the-one : (has : Bool) → has ≡ true → cond has (Some one) (found_in list id) ≡ Some found → one ≡ found
     the-one true is e = cc
     the-one false is e = cc
+
     others : (has : Bool) → has ≡ false → cond has (Some one) (found_in list id) ≡ Some found → found_in list id ≡ Some found
     others true is e = cc
     others false is e = e
+
     by_test : (is : Bool) → is_same_id id (coin_id one.coin) ≡ is
         → (found_in list id ≡ Some found → set_value (eq-value.it id) (map keyed list) (record found { spent = spent }) ≡ map keyed (map (marked spent (id ∷ [])) list))
         → cond (is_same_id id (coin_id one.coin)) ((coin_id one.coin, record found { spent = spent }) ∷ map keyed list) (keyed one ∷ set_value (eq-value.it id) (map keyed list) (record found { spent = spent }))

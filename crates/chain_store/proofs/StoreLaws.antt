@@ -66,10 +66,10 @@ module _ (parts : Parts) (held : IsInOrder parts) where
         held = record {
           sound = connected-is-sound (chain_to parts height) block (sound-to parts held height) can;
           records =
-            ap (λ n. with_block n block parts.records.list) next
-            ∙ ap (with_block (suc (peak_of (chain_to parts height)).height) block) held.records
-            ∙ ap (λ ledger. ledger.records) (sym (ledger-grows (chain_to parts height) block))
-            ∙ ap (λ list. records_of (chain_of parts list)) (sym whole);
+              ap (λ n. with_block n block parts.records.list) next
+              ∙ ap (with_block (suc (peak_of (chain_to parts height)).height) block) held.records
+              ∙ ap (λ ledger. ledger.records) (sym (ledger-grows (chain_to parts height) block))
+              ∙ ap (λ list. records_of (chain_of parts list)) (sym whole);
           height = omega (arith, long);
           room = no-room (height + 1) blocks (drop-all (height + 1) blocks (omega (arith, long))) room;
           before = omega (arith, long);
@@ -104,9 +104,9 @@ module _ (parts : Parts) (held : IsInOrder parts) where
         held = record {
           sound = sound-to parts held height;
           records =
-            ap (without_blocks (slice_range parts.blocks kept height)) held.records
-            ∙ span-off parts held kept height le
-            ∙ ap (λ list. records_of (chain_of parts list)) (sym (take-take kept height parts.blocks le));
+              ap (without_blocks (slice_range parts.blocks kept height)) held.records
+              ∙ span-off parts held kept height le
+              ∙ ap (λ list. records_of (chain_of parts list)) (sym (take-take kept height parts.blocks le));
           height = omega (arith, long);
           room = let same : sum_by created_count (slice_range parts.blocks kept height) ≡ sum_by created_count (drop kept blocks) = ap (sum_by created_count) span in omega (arith, same, enough);
           before = omega (arith, long);
@@ -143,16 +143,16 @@ module _ (parts : Parts) (held : IsInOrder parts) where
         held = record {
           sound = sound-to parts held height;
           records =
-            ap (moved parts.height height parts.blocks) held.records
-            ∙ moved-between parts held parts.height height held.height
-            ∙ ap (λ list. records_of (chain_of parts list)) (sym same);
+              ap (moved parts.height height parts.blocks) held.records
+              ∙ moved-between parts held parts.height height held.height
+              ∙ ap (λ list. records_of (chain_of parts list)) (sym same);
           height = omega (arith, long);
           room = no-room height blocks (drop-all height blocks (omega (arith, long))) room;
           before = tt;
         };
         shows =
-          (λ j. record { chain = chain_of parts (same j); changes = take before.changes parts.changes; before = None })
-          ∙ sym (ap (λ o. reverted_to (seen parts) (option_map (state_at parts) o)) is);
+            (λ j. record { chain = chain_of parts (same j); changes = take before.changes parts.changes; before = None })
+            ∙ sym (ap (λ o. reverted_to (seen parts) (option_map (state_at parts) o)) is);
       }
 
   pub nothing-before : parts.before ≡ None → seen parts ≡ reverted (seen parts)
@@ -182,9 +182,9 @@ module _ (parts : Parts) (held : IsInOrder parts) where
         held = record {
           sound = subst (λ blocks. IsSound (chain blocks)) first (started-is-sound (seen parts) coin first (sound-to parts held height) new);
           records =
-            ap (λ list. list ++ made_at 0 parts.seconds coin ∷ []) old
-            ∙ sym (map-append (start_record parts.seconds) parts.coins (coin ∷ []))
-            ∙ ap (λ blocks. records_of (chain blocks)) (sym none);
+              ap (λ list. list ++ made_at 0 parts.seconds coin ∷ []) old
+              ∙ sym (map-append (start_record parts.seconds) parts.coins (coin ∷ []))
+              ∙ ap (λ blocks. records_of (chain blocks)) (sym none);
           height = omega (arith, long, zero_length);
           room = no-room height [] (drop-nil height) room;
           before = tt;

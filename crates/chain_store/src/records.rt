@@ -52,12 +52,7 @@ impl Records {
     }
 
     /// What there is among the unspent coins of this puzzle hash and amount, but for those of the excepted ids.
-    pub(crate) fn unspent_of(
-        &self,
-        puzzle_hash: &Hash32,
-        amount: u64,
-        except: &[Hash32],
-    ) -> Unspent
+    pub(crate) fn unspent_of(&self, puzzle_hash: &Hash32, amount: u64, except: &[Hash32]) -> Unspent
         ensures { result ≡ unspent_among puzzle_hash.now amount except.now self.now.list }
     {
         let mut found = Unspent::None;

@@ -19,7 +19,7 @@ loop-id-preserved g c = λ earlier has.
     append_assoc earlier (take place ids) (get_or ids place none ∷ []) ∙ ap (λ more. earlier ++ more) (sym (take_more ids place none c.loop-id-test.true)) in (
       subst (HasIds c.is_old_id.new.earlier) longer (asks.more c.if-branch.false),
       ap (λ before. adds_old there before (drop (place + 1) ids)) (sym longer)
-      ∙ sym (adds-next there (earlier ++ take place ids) ids place none c.loop-id-test.true (sym asks.is ∙ c.if-branch.false)) ∙ held.1,
+          ∙ sym (adds-next there (earlier ++ take place ids) ids place none c.loop-id-test.true (sym asks.is ∙ c.if-branch.false)) ∙ held.1,
     )
 
 pub returns-then-branch : goal.returns-then-branch

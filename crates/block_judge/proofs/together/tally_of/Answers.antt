@@ -16,7 +16,7 @@ loop-place-preserved c =
     let added : Acts = record { coin = c.behind-facts.inside.coin; conditions = c.conditions.result.now } in
     let same : added ≡ acts_of facts = λ i. record { coin = coin i; conditions = c.conditions.ensures i } in (
       subst (IsTallyOf c.add.new.self) (ap (λ acts. map acts_of (take place list) ++ acts ∷ []) same ∙ grown-acts list place facts c.loop-place-test.true c.index-list-place.is)
-      (c.in_ok-add.ensures.ok (map acts_of (take place list)) held.0),
+          (c.in_ok-add.ensures.ok (map acts_of (take place list)) held.0),
       c.in_ok-add.ensures.count,
     )
 

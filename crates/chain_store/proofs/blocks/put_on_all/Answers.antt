@@ -38,9 +38,9 @@ loop-place-preserved c =
     let height : suc below ≡ c.args.below + (place + 1) = omega arith in (
       subst (λ n. AreNewInTurn n after left) height (subst (λ records. AreNewInTurn (suc below) records left) (sym grown) new.1),
       ap (λ n. with_blocks n left after) (sym height)
-      ∙ ap (with_blocks (suc below) left) grown
-      ∙ ap (λ coming. with_blocks below coming list) (sym next)
-      ∙ before.1,
+          ∙ ap (with_blocks (suc below) left) grown
+          ∙ ap (λ coming. with_blocks below coming list) (sym next)
+          ∙ before.1,
       omega (arith, count, before.2, c.put_on.ensures.room),
     )
 

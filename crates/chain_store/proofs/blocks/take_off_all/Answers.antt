@@ -10,9 +10,9 @@ loop-last-preserved c =
     let before = c.loop-last.invariant in
     let after = c.take_off.ensures in (
       ap (without_blocks others) after.list
-      ∙ sym (without-blocks-last others c.in-Some.last.now list)
-      ∙ ap (λ blocks. without_blocks blocks list) (sym c.in-Some.ensures.cases.0)
-      ∙ before.0,
+          ∙ sym (without-blocks-last others c.in-Some.last.now list)
+          ∙ ap (λ blocks. without_blocks blocks list) (sym c.in-Some.ensures.cases.0)
+          ∙ before.0,
       omega (arith, before.1, after.room),
     )
 

@@ -36,9 +36,9 @@ loop-coin-preserved c =
     let make = made_at c.args.height c.args.seconds in (
       subst (λ grown. AreNew grown left) (sym after.list) step.others,
       ap (λ grown. grown ++ map make left) after.list
-      ∙ append_assoc list (make coin ∷ []) (map make left)
-      ∙ ap (λ coming. list ++ map make coming) (sym next)
-      ∙ before.1,
+          ∙ append_assoc list (make coin ∷ []) (map make left)
+          ∙ ap (λ coming. list ++ map make coming) (sym next)
+          ∙ before.1,
       omega (arith, long, before.2, after.room),
       omega (arith, before.3, after.room),
     )

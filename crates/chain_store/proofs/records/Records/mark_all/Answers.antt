@@ -17,9 +17,9 @@ loop-id-preserved c =
     let before = c.loop-id.invariant in
     let after = c.mark.ensures in (
       after.list
-      ∙ ap (map (marked c.args.spent (id ∷ []))) before.0
-      ∙ marks-more c.args.spent front id c.args.self.now.list
-      ∙ ap (λ marks. map (marked c.args.spent marks) c.args.self.now.list) (sym (take_more ids c.loop-id.id-index some c.loop-id-test.true)),
+          ∙ ap (map (marked c.args.spent (id ∷ []))) before.0
+          ∙ marks-more c.args.spent front id c.args.self.now.list
+          ∙ ap (λ marks. map (marked c.args.spent marks) c.args.self.now.list) (sym (take_more ids c.loop-id.id-index some c.loop-id-test.true)),
       omega (arith, before.1, after.room),
     )
 

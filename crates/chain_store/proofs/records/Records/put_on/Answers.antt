@@ -20,8 +20,8 @@ returns c =
     let count : length c.deref.result.now ≡ length c.args.block.now.created = ap length coins in
     record {
       list =
-        c.mark_all.ensures.list
-        ∙ ap (map (marked (Some c.args.height) c.deref-2.result.now)) c.add_all.ensures.list
-        ∙ (λ j. map (marked (Some c.args.height) (ids j)) (c.args.self.now.list ++ map (made_at c.args.height (seconds j)) (coins j)));
+          c.mark_all.ensures.list
+          ∙ ap (map (marked (Some c.args.height) c.deref-2.result.now)) c.add_all.ensures.list
+          ∙ (λ j. map (marked (Some c.args.height) (ids j)) (c.args.self.now.list ++ map (made_at c.args.height (seconds j)) (coins j)));
       room = omega (arith, c.add_all.ensures.room, c.mark_all.ensures.room, count);
     }

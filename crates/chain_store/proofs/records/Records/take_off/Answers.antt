@@ -8,8 +8,8 @@ returns c =
     let count : c.len.result ≡ length c.args.block.now.created = c.len.ensures ∙ c.block.inside.created.ok.0 ∙ ap (λ block. length block.created) c.block.view_is in
     record {
       list =
-        c.remove_all.ensures.list
-        ∙ ap (without_last c.len.result) c.mark_all.ensures.list
-        ∙ (λ j. without_last (count j) (map (marked None (ids j)) c.args.self.now.list));
+          c.remove_all.ensures.list
+          ∙ ap (without_last c.len.result) c.mark_all.ensures.list
+          ∙ (λ j. without_last (count j) (map (marked None (ids j)) c.args.self.now.list));
       room = omega (arith, c.mark_all.ensures.room, c.remove_all.ensures.room);
     }

@@ -32,9 +32,9 @@ returns c =
     let long : height ≡ length (take height parts.blocks) = sym (length-take-le height parts.blocks c.self.invariant.height) in
     record {
       value =
-        (λ j. record { height = long j; hash = ap (λ last. last.hash) c.last.view_is j; seconds = ap (λ last. last.seconds) c.last.view_is j })
-        ∙ sym (last-peak (chain_to parts height) (take (height - 1) parts.blocks) block kept)
-        ∙ ap (λ view. peak_of view.chain) c.self.view_is;
+          (λ j. record { height = long j; hash = ap (λ last. last.hash) c.last.view_is j; seconds = ap (λ last. last.seconds) c.last.view_is j })
+          ∙ sym (last-peak (chain_to parts height) (take (height - 1) parts.blocks) block kept)
+          ∙ ap (λ view. peak_of view.chain) c.self.view_is;
       apart =
-        subst (λ view. IsDistinct is_same_id (ids_of (ledger_of view.chain).records)) c.self.view_is (apart-to (parts_of c.self.inside) c.self.invariant c.self.inside.height);
+          subst (λ view. IsDistinct is_same_id (ids_of (ledger_of view.chain).records)) c.self.view_is (apart-to (parts_of c.self.inside) c.self.invariant c.self.inside.height);
     }
