@@ -1,5 +1,5 @@
 -- What a source means, its code gives.
-use Rattle.std.proofs.Common.{◌≡◌, ℕ, suc, ◌==◌, Bool, true, false, cond, List, [], ◌∷◌, ◌++◌, map, Option, Some, None, Ok, Err, zero, refl, sym, ap, ◌∙◌, subst, arith}
+use Rattle.std.proofs.Common.{◌≡◌, ℕ, suc, ◌==◌, Bool, true, false, cond, List, [], ◌∷◌, ◌++◌, Option, Some, None, Ok, Err, zero, refl, sym, ap, ◌∙◌, subst, arith}
 use Rattle.std.proofs.lemmas.Bool.{eqb-true}
 use Rattle.clvm_spec.specs.Tree.{Tree, Atom, Pair, nil, list_tree}
 use Rattle.clvm_spec.specs.OperatorTable.{applied}
@@ -15,16 +15,17 @@ use Rattle.lisp_spec.proofs.Soundness.{IsSound, AreSound, IsSoundTemplate, is_so
 use Rattle.lisp_code.proofs.Refining.{Refines, out, same, Covered, Rises}
 use Rattle.lisp_code.proofs.Plain.{plain_run, plain_apply, plain_values, plain, found_meaning}
 use Rattle.lisp_code.specs.Names.{Names}
-use Rattle.lisp_code.specs.Pieces.{operator_code, path_code, failing, pair_code, if_code, list_path}
-use Rattle.lisp_code.specs.Codes.{Code, Path, Other, constant_tree, tree_of, pair_of, list_of, step_of, operation_of, choice_of, call_code, call_of}
+use Rattle.lisp_code.specs.Pieces.{operator_code, path_code, failing, pair_code}
+use Rattle.lisp_code.specs.Codes.{Code, Path, Other, Piece, Chooses, operates, parts_of, pair_of, list_of, step_of, operation_of, choice_of, call_of}
 use Rattle.lisp_code.specs.Codes as codes
-use Rattle.lisp_code.specs.Code.{index_of, constant_code, Codes, name_code, body_code, inline_code, expression_code, operand_codes, template_code}
-use Rattle.lisp_code.proofs.Corresponding.{Corresponds, SameName, to_tree, to_no_step, no_path, expression, nothing, Located, nowhere}
-use Rattle.lisp_code.proofs.Corresponding as corresponding
+use Rattle.lisp_code.specs.Frames.{Frame, path_from, function_path, constant_tree, call_code, tree_of, piece_tree, trees_of}
+use Rattle.lisp_code.specs.Code.{constant_code, Codes, name_code, body_code, inline_code, expression_code, operand_codes, template_code}
+use Rattle.lisp_code.proofs.Corresponding.{Corresponds, SameName, to_tree, to_no_step, no_path, expression, nothing, world, path_found, path_longer, function_value}
+use Rattle.lisp_code.proofs.Fitting.{Fits, PieceFits, AllFit}
 use Rattle.lisp_code.proofs.Refined.{refines_equal, refines_then, refines_trans, covered_then, covered_same, covered_suc, covered_third, covered_at_suc, covered_by, rises_then, rises_same, if_value_if_value}
 use Rattle.lisp_code.proofs.PlainRuns.{plain_covers_runs}
-use Rattle.lisp_code.proofs.PlainForms.{plain_rises, plain_apply_refine, plain_operator, plain_path, plain_failing, plain_pair, picked, if_gives, call_gives, unknown_call, constant_is, constant_says, constant_choice, found_step, pair_operates}
-use Rattle.lisp_code.proofs.Lookups.{inline_corresponds, same_name, located}
+use Rattle.lisp_code.proofs.PlainForms.{plain_rises, plain_apply_refine, plain_operator, plain_path, plain_failing, plain_pair, picked, if_of, if_gives, constant_is, constant_says, constant_choice, found_step, pair_operates}
+use Rattle.lisp_code.proofs.Lookups.{inline_corresponds, same_name}
 
 -- Operands are evaluated before what is done with their values.
 pub natural : (source : Module) (n : ℕ) (further : Means) (operands : Operands) (env : Environment Tree) (h : List Tree → Meaning) (g : Tree → Meaning) →
@@ -45,11 +46,18 @@ covered_path path env x e = (1, refines_equal _ _ (e ∙ sym (plain_path 0 path 
 pub covered_failing : (env : Tree) → Covered Failed (λ m. plain m failing env)
 covered_failing env = (1, refines_equal _ _ (sym (plain_failing 0 env)))
 
-module _ (source : Module) (n : ℕ) (further : Means) (codes_further : Codes) (table : Tree)
-    (goes : (e : Expression) (scope : Scope) → IsSound scope e → (env : Environment Tree) (names : Names) (argument : Tree) → Corresponds argument env names → Covered (further e env) (λ m. plain m (tree_of (codes_further e names)) (Pair table argument)))
-    (calls : (f : Definition) (k : ℕ) → ((g : Definition → Tree) → tree_at (list_path k) (list_tree (map g source.functions)) ≡ Some (g f)) →
-    (code : Tree) × (tree_at (list_path k) table ≡ Some code)
-    × ((t : Tree) → Covered (body_meaning further (body_of source f.params f.body) (function_environment f.params t)) (λ m. plain m code (Pair table t)))) where
+-- What a function is called with is the list of the operands' values.
+pub called : (source : Module) (n : ℕ) (further : Means) (operands : Operands) (env : Environment Tree) (f : Option Definition) →
+    operands_meaning source n further operands env (function_call source further f) ≡ if_value (list_value source n further operands env) (function_value source further f)
+called source n further operands env None = natural source n further operands env (λ values. Value (list_tree values)) (λ t. Failed)
+called source n further operands env (Some f) =
+    natural source n further operands env (λ values. Value (list_tree values)) (λ t. body_meaning further (body_of source f.params f.body) (function_environment f.params t))
+
+module _ (source : Module) (n : ℕ) (further : Means) (codes_further : Codes) (frame : Frame) (table : Tree) (P : List ℕ → Type 0)
+    (goes : (e : Expression) (scope : Scope) → IsSound scope e → (env : Environment Tree) (names : Names) (argument : Tree) → Corresponds argument env names → Fits P (codes_further e names) →
+    Covered (further e env) (λ m. plain m (tree_of frame (codes_further e names)) (world frame table argument)))
+    (calls : (name : List ℕ) → P name → (argument list : Tree) (x : Meaning) → Covered x (λ m. plain m list (world frame table argument)) →
+    Covered (if_value x (function_value source further (definition_named name source.functions))) (λ m. plain m (call_code (function_path frame name) list) (world frame table argument))) where
   covered_run : (values : List Tree) → Covered (run_values n values) (λ m. plain_run (plain m) values)
   covered_run [] = (0, same Failed)
   covered_run (program ∷ []) = (0, same Failed)
@@ -65,7 +73,7 @@ module _ (source : Module) (n : ℕ) (further : Means) (codes_further : Codes) (
 
   module _ (argument : Tree) (scope : Scope) where
     abbrev here : Tree
-    here = Pair table argument
+    here = world frame table argument
 
     -- ---- pieces of code, as trees
 
@@ -99,10 +107,10 @@ module _ (source : Module) (n : ℕ) (further : Means) (codes_further : Codes) (
     chosen_here (Atom (x ∷ bytes)) a b env ca cb p q = p
     chosen_here (Pair first rest) a b env ca cb p q = p
 
-    if_here : (t : Meaning) (a b : Environment Tree → Meaning) (env : Environment Tree) (ct ca cb : Tree) → HereTree t ct → HereTree (a env) ca → HereTree (b env) cb → HereTree (if_value t (λ v. chosen v a b env)) (if_code ct ca cb)
+    if_here : (t : Meaning) (a b : Environment Tree → Meaning) (env : Environment Tree) (ct ca cb : Tree) → HereTree t ct → HereTree (a env) ca → HereTree (b env) cb → HereTree (if_value t (λ v. chosen v a b env)) (if_of ct ca cb)
     unfolding HereTree
     if_here t a b env ct ca cb p q r =
-        covered_third _ (λ m. plain m (if_code ct ca cb) here)
+        covered_third _ (λ m. plain m (if_of ct ca cb) here)
         (covered_by _ _ _ (λ m. refines_equal _ _ (if_gives m ct ca cb here))
         (covered_then t (λ m. plain (suc m) ct here) _ (λ m v. plain (suc (suc m)) (picked v ca cb) here)
         (λ x y le. plain_rises ct here (suc x) (suc y) (omega arith))
@@ -113,33 +121,36 @@ module _ (source : Module) (n : ℕ) (further : Means) (codes_further : Codes) (
     -- ---- codes
 
     unfoldable pub Here : Meaning → Code → Type 0
-    Here x code = Covered x (λ m. plain m (tree_of code) here)
+    Here x code = Fits P code → Covered x (λ m. plain m (tree_of frame code) here)
 
-    tree_here : (x : Meaning) (code : Code) → Here x code → HereTree x (tree_of code)
+    tree_here : (x : Meaning) (code : Code) → Here x code → Fits P code → HereTree x (tree_of frame code)
     unfolding Here HereTree
-    tree_here x code h = h
+    tree_here x code h fit = h fit
 
-    other_here : (x : Meaning) (tree : Tree) → HereTree x tree → Here x (Other tree)
+    other_here : (x : Meaning) (piece : Piece) → (PieceFits P piece → HereTree x (piece_tree frame piece)) → Here x (Other piece)
     unfolding Here HereTree
-    other_here x tree h = h
+    other_here x piece h = h
 
     -- A constant's meaning is the constant.
     value_of : (x : Meaning) (tree : Tree) → Here x (codes.Constant tree) → Refines x (Value tree)
     unfolding Here
-    value_of x tree h = refines_trans _ _ _ h.1 (constant_says h.0 tree here)
+    value_of x tree h = let c = h tt in refines_trans _ _ _ c.1 (constant_says c.0 tree here)
 
     value_here : (x : Meaning) (tree : Tree) → Refines x (Value tree) → Here x (codes.Constant tree)
     unfolding Here
-    value_here x tree r = (1, refines_trans _ _ _ r (refines_equal _ _ (sym (constant_is 0 tree here))))
+    value_here x tree r = λ fit. (1, refines_trans _ _ _ r (refines_equal _ _ (sym (constant_is 0 tree here))))
+
+    both_here : (a b : Meaning) (ca cb : Code) → Here a ca → Here b cb → Here (if_value b (λ b. if_value a (λ a. Value (Pair a b)))) (operates 4 (ca ∷ cb ∷ []))
+    both_here a b ca cb p q = other_here _ _ (λ fit. two_here a b (tree_of frame ca) (tree_of frame cb) (tree_here a ca p fit.0) (tree_here b cb q fit.1.0))
 
     pair_here : (a b : Meaning) (ca cb : Code) → Here a ca → Here b cb → Here (if_value b (λ b. if_value a (λ a. Value (Pair a b)))) (pair_of ca cb)
     pair_here a b (codes.Constant x) (codes.Constant y) p q =
         value_here _ (Pair x y) (refines_then b (Value y) _ (λ vb. if_value (Value x) (λ va. Value (Pair va vb))) (value_of b y q)
         (λ vb. refines_then a (Value x) _ (λ va. Value (Pair va vb)) (value_of a x p) (λ va. same (Value (Pair va vb)))))
-    pair_here a b (codes.Constant x) (Path path) p q = other_here _ _ (two_here a b (constant_tree x) (path_code path) (tree_here a _ p) (tree_here b _ q))
-    pair_here a b (codes.Constant x) (Other tree) p q = other_here _ _ (two_here a b (constant_tree x) tree (tree_here a _ p) (tree_here b _ q))
-    pair_here a b (Path path) cb p q = other_here _ _ (two_here a b (path_code path) (tree_of cb) (tree_here a _ p) (tree_here b _ q))
-    pair_here a b (Other tree) cb p q = other_here _ _ (two_here a b tree (tree_of cb) (tree_here a _ p) (tree_here b _ q))
+    pair_here a b (codes.Constant x) (Path path) p q = both_here a b (codes.Constant x) (Path path) p q
+    pair_here a b (codes.Constant x) (Other piece) p q = both_here a b (codes.Constant x) (Other piece) p q
+    pair_here a b (Path path) cb p q = both_here a b (Path path) cb p q
+    pair_here a b (Other piece) cb p q = both_here a b (Other piece) cb p q
 
     chosen_value : (v : Tree) (a b : Environment Tree → Meaning) (env : Environment Tree) (x y : Tree) → Refines (a env) (Value x) → Refines (b env) (Value y) → Refines (chosen v a b env) (Value (picked v x y))
     chosen_value (Atom []) a b env x y p q = q
@@ -157,23 +168,28 @@ module _ (source : Module) (n : ℕ) (further : Means) (codes_further : Codes) (
         (λ i j le. plain_rises ct here (suc i) (suc j) (omega arith)) (λ v. rises_same (Value (picked v x y)))
         (covered_at_suc _ (λ m. plain m ct here) (plain_rises ct here) p) (λ v. (0, chosen_value v a b env x y q r)))))
 
+    either_here : (t : Meaning) (a b : Environment Tree → Meaning) (env : Environment Tree) (ct ca cb : Code) → Here t ct → Here (a env) ca → Here (b env) cb → Here (if_value t (λ v. chosen v a b env)) (Other (Chooses ct ca cb))
+    either_here t a b env ct ca cb p q r =
+        other_here _ _ (λ fit. if_here t a b env (tree_of frame ct) (tree_of frame ca) (tree_of frame cb) (tree_here t ct p fit.0) (tree_here _ ca q fit.1) (tree_here _ cb r fit.2))
+
     choice_here : (t : Meaning) (a b : Environment Tree → Meaning) (env : Environment Tree) (ct ca cb : Code) → Here t ct → Here (a env) ca → Here (b env) cb → Here (if_value t (λ v. chosen v a b env)) (choice_of ct ca cb)
-    choice_here t a b env ct (codes.Constant x) (codes.Constant y) p q r = other_here _ _ (constants_here t a b env (tree_of ct) x y (tree_here t ct p) (value_of (a env) x q) (value_of (b env) y r))
-    choice_here t a b env ct (codes.Constant x) (Path path) p q r = other_here _ _ (if_here t a b env (tree_of ct) (constant_tree x) (path_code path) (tree_here t ct p) (tree_here _ _ q) (tree_here _ _ r))
-    choice_here t a b env ct (codes.Constant x) (Other tree) p q r = other_here _ _ (if_here t a b env (tree_of ct) (constant_tree x) tree (tree_here t ct p) (tree_here _ _ q) (tree_here _ _ r))
-    choice_here t a b env ct (Path path) cb p q r = other_here _ _ (if_here t a b env (tree_of ct) (path_code path) (tree_of cb) (tree_here t ct p) (tree_here _ _ q) (tree_here _ _ r))
-    choice_here t a b env ct (Other tree) cb p q r = other_here _ _ (if_here t a b env (tree_of ct) tree (tree_of cb) (tree_here t ct p) (tree_here _ _ q) (tree_here _ _ r))
+    choice_here t a b env ct (codes.Constant x) (codes.Constant y) p q r =
+        other_here _ _ (λ fit. constants_here t a b env (tree_of frame ct) x y (tree_here t ct p fit.0) (value_of (a env) x q) (value_of (b env) y r))
+    choice_here t a b env ct (codes.Constant x) (Path path) p q r = either_here t a b env ct (codes.Constant x) (Path path) p q r
+    choice_here t a b env ct (codes.Constant x) (Other piece) p q r = either_here t a b env ct (codes.Constant x) (Other piece) p q r
+    choice_here t a b env ct (Path path) cb p q r = either_here t a b env ct (Path path) cb p q r
+    choice_here t a b env ct (Other piece) cb p q r = either_here t a b env ct (Other piece) cb p q r
 
     constant_here : (found : Option modules.Constant) → Here (constant_meaning found) (constant_code found)
     unfolding Here
-    constant_here None = covered_failing here
-    constant_here (Some constant) = (1, refines_equal _ _ (sym (constant_is 0 constant.value here)))
+    constant_here None = λ fit. covered_failing here
+    constant_here (Some constant) = λ fit. (1, refines_equal _ _ (sym (constant_is 0 constant.value here)))
 
     name_here : (name : List ℕ) (b : Binding Tree) (d : Binding (List Side)) → SameName argument b d → Here (name_meaning source further name b) (name_code source codes_further name d)
     unfolding Here
-    name_here name b d (to_tree path tree e) = covered_path (ToRest ∷ path) here (Value tree) (sym (ap found_meaning e))
-    name_here name b d (to_no_step path e) = covered_path (ToRest ∷ path) here Failed (sym (ap found_meaning e))
-    name_here name b d no_path = covered_failing here
+    name_here name b d (to_tree path tree e) = λ fit. covered_path (path_from frame path) here (Value tree) (sym (ap found_meaning (path_found frame table argument path ∙ e)))
+    name_here name b d (to_no_step path e) = λ fit. covered_path (path_from frame path) here Failed (sym (ap found_meaning (path_found frame table argument path ∙ e)))
+    name_here name b d no_path = λ fit. covered_failing here
     name_here name b d (expression e scope there there' s c) = goes e scope s there there' argument c
     name_here name b d nothing = constant_here (constant_named name source.constants)
 
@@ -198,50 +214,56 @@ module _ (source : Module) (n : ℕ) (further : Means) (codes_further : Codes) (
         (λ values. rises_then (λ m. plain m code here) (λ m v. go' m (v ∷ values)) (plain_rises _ _) (λ v. rises (v ∷ values)))
         (λ values. covered_then (expression_meaning source n further first env) (λ m. plain m code here) (λ v. go (v ∷ values)) (λ m v. go' m (v ∷ values)) (plain_rises _ _) (λ v. rises (v ∷ values)) h (λ v. covers (v ∷ values)))
 
-    trees_here : (operands : Operands) (env : Environment Tree) (codes : List Code) → AllHere operands env codes → TreesHere operands env (map tree_of codes)
+    trees_here : (operands : Operands) (env : Environment Tree) (codes : List Code) → AllHere operands env codes → AllFit P (parts_of codes) → TreesHere operands env (trees_of frame (parts_of codes))
     unfolding AllHere
-    trees_here NoMore env [] h = none_here env
-    trees_here NoMore env (code ∷ codes) h = elim h [ ]
-    trees_here (Operand first more) env [] h = elim h [ ]
-    trees_here (Operand first more) env (code ∷ codes) h = more_here first more env (tree_of code) (map tree_of codes) (tree_here _ code h.0) (trees_here more env codes h.1)
+    trees_here NoMore env [] h fit = none_here env
+    trees_here NoMore env (code ∷ codes) h fit = elim h [ ]
+    trees_here (Operand first more) env [] h fit = elim h [ ]
+    trees_here (Operand first more) env (code ∷ codes) h fit =
+        more_here first more env (tree_of frame code) (trees_of frame (parts_of codes)) (tree_here _ code h.0 fit.0) (trees_here more env codes h.1 fit.1)
 
     list_here : (operands : Operands) (env : Environment Tree) (codes : List Code) → AllHere operands env codes → Here (list_value source n further operands env) (list_of codes)
     unfolding AllHere Here
-    list_here NoMore env [] h = (1, same (Value nil))
+    list_here NoMore env [] h = λ fit. (1, same (Value nil))
     list_here NoMore env (code ∷ codes) h = elim h [ ]
     list_here (Operand first more) env [] h = elim h [ ]
-    list_here (Operand first more) env (code ∷ codes) h =
+    list_here (Operand first more) env (code ∷ codes) h = λ fit.
         covered_same _ _ _ (natural source n further more env (λ values. Value (list_tree values)) (λ t. if_value (expression_meaning source n further first env) (λ v. Value (Pair v t))))
-        (pair_here (expression_meaning source n further first env) (list_value source n further more env) code (list_of codes) h.0 (list_here more env codes h.1))
+        (pair_here (expression_meaning source n further first env) (list_value source n further more env) code (list_of codes) h.0 (list_here more env codes h.1) fit)
+
+    operates_here : (operands : Operands) (env : Environment Tree) (codes : List Code) (code : ℕ) → (code == 1) ≡ false → AllHere operands env codes → Here (operands_meaning source n further operands env (operate n code)) (operates code codes)
+    operates_here operands env codes code one h = other_here _ _ (λ fit. operator_here operands env (trees_of frame (parts_of codes)) code one (trees_here operands env codes h fit))
 
     step_here : (side : Side) → (step_code side == 1) ≡ false → (first : Expression) (env : Environment Tree) (code : Code) → Here (expression_meaning source n further first env) code →
         Here (if_value (expression_meaning source n further first env) (λ v. operate n (step_code side) (v ∷ []))) (step_of side code)
     unfolding Here AllHere
-    step_here side one first env (Path path) h =
-        let found = found_meaning (tree_at path here) in
-        let is : Refines (expression_meaning source n further first env) found = refines_trans _ _ _ h.1 (path_says_most h.0 path) in
-        (1, refines_trans _ _ _ (refines_then _ found _ _ is (λ v. same (operate n (step_code side) (v ∷ [])))) (refines_equal _ _ (found_step n side path here ∙ sym (plain_path 0 (path ++ side ∷ []) here))))
+    step_here side one first env (Path path) h = λ fit.
+        let c = h fit in
+        let from = path_from frame path in
+        let found = found_meaning (tree_at from here) in
+        let is : Refines (expression_meaning source n further first env) found = refines_trans _ _ _ c.1 (path_says_most c.0 from) in (
+          1,
+          refines_trans _ _ _ (refines_then _ found _ _ is (λ v. same (operate n (step_code side) (v ∷ []))))
+              (refines_equal _ _ (found_step n side from here ∙ sym (plain_path 0 (from ++ side ∷ []) here) ∙ ap (λ p. plain 1 (path_code p) here) (sym (path_longer frame path side)))),
+        )
       where
         path_says_most : (m : ℕ) (path : List Side) → Refines (plain m (path_code path) here) (found_meaning (tree_at path here))
         path_says_most zero path = out _
         path_says_most (suc m) path = refines_equal _ _ (plain_path m path here)
-    step_here side one first env (codes.Constant tree) h =
-        other_here _ _ (operator_here (Operand first NoMore) env (constant_tree tree ∷ []) (step_code side) one (trees_here (Operand first NoMore) env (codes.Constant tree ∷ []) (h, tt)))
-    step_here side one first env (Other tree) h =
-        other_here _ _ (operator_here (Operand first NoMore) env (tree ∷ []) (step_code side) one (trees_here (Operand first NoMore) env (Other tree ∷ []) (h, tt)))
+    step_here side one first env (codes.Constant tree) h = operates_here (Operand first NoMore) env (codes.Constant tree ∷ []) (step_code side) one (h, tt)
+    step_here side one first env (Other piece) h = operates_here (Operand first NoMore) env (Other piece ∷ []) (step_code side) one (h, tt)
 
     one_here : (code : ℕ) → (code == 1) ≡ false → (first : Expression) (env : Environment Tree) (c : Code) → Here (expression_meaning source n further first env) c → (f r : Bool) → (code == 5) ≡ f → (code == 6) ≡ r →
-        Here (if_value (expression_meaning source n further first env) (λ v. operate n code (v ∷ []))) (cond f (step_of ToFirst c) (cond r (step_of ToRest c) (Other (operator_code code (tree_of c ∷ [])))))
+        Here (if_value (expression_meaning source n further first env) (λ v. operate n code (v ∷ []))) (cond f (step_of ToFirst c) (cond r (step_of ToRest c) (operates code (c ∷ []))))
     unfolding AllHere
     one_here code one first env c h true r is isnt =
         subst (λ code. Here (if_value (expression_meaning source n further first env) (λ v. operate n code (v ∷ []))) (step_of ToFirst c)) (sym (eqb-true code 5 is)) (step_here ToFirst refl first env c h)
     one_here code one first env c h false true isnt is =
         subst (λ code. Here (if_value (expression_meaning source n further first env) (λ v. operate n code (v ∷ []))) (step_of ToRest c)) (sym (eqb-true code 6 is)) (step_here ToRest refl first env c h)
-    one_here code one first env c h false false isnt neither =
-        other_here _ _ (operator_here (Operand first NoMore) env (tree_of c ∷ []) code one (trees_here (Operand first NoMore) env (c ∷ []) (h, tt)))
+    one_here code one first env c h false false isnt neither = operates_here (Operand first NoMore) env (c ∷ []) code one (h, tt)
 
     pairs_here : (code : ℕ) → (code == 1) ≡ false → (first second : Expression) (env : Environment Tree) (c d : Code) → Here (expression_meaning source n further first env) c → Here (expression_meaning source n further second env) d →
-        (is : Bool) → (code == 4) ≡ is → Here (operands_meaning source n further (Operand first (Operand second NoMore)) env (operate n code)) (cond is (pair_of c d) (Other (operator_code code (tree_of c ∷ tree_of d ∷ []))))
+        (is : Bool) → (code == 4) ≡ is → Here (operands_meaning source n further (Operand first (Operand second NoMore)) env (operate n code)) (cond is (pair_of c d) (operates code (c ∷ d ∷ [])))
     unfolding AllHere
     pairs_here code one first second env c d h k true is =
         subst (λ code. Here (operands_meaning source n further (Operand first (Operand second NoMore)) env (operate n code)) (pair_of c d)) (sym (eqb-true code 4 is))
@@ -257,12 +279,11 @@ module _ (source : Module) (n : ℕ) (further : Means) (codes_further : Codes) (
         pair_go (a ∷ []) = refl
         pair_go (a ∷ b ∷ []) = pair_operates n a b
         pair_go (a ∷ b ∷ c ∷ more) = refl
-    pairs_here code one first second env c d h k false is =
-        other_here _ _ (operator_here (Operand first (Operand second NoMore)) env (tree_of c ∷ tree_of d ∷ []) code one (trees_here (Operand first (Operand second NoMore)) env (c ∷ d ∷ []) (h, (k, tt))))
+    pairs_here code one first second env c d h k false is = operates_here (Operand first (Operand second NoMore)) env (c ∷ d ∷ []) code one (h, (k, tt))
 
     operation_here : (operands : Operands) (env : Environment Tree) (codes : List Code) (code : ℕ) → (code == 1) ≡ false → AllHere operands env codes → Here (operands_meaning source n further operands env (operate n code)) (operation_of code codes)
     unfolding AllHere
-    operation_here NoMore env [] code one h = other_here _ _ (operator_here NoMore env [] code one (trees_here NoMore env [] h))
+    operation_here NoMore env [] code one h = operates_here NoMore env [] code one h
     operation_here NoMore env (c ∷ codes) code one h = elim h [ ]
     operation_here (Operand first more) env [] code one h = elim h [ ]
     operation_here (Operand first NoMore) env (c ∷ []) code one h = one_here code one first env c h.0 (code == 5) (code == 6) refl refl
@@ -271,43 +292,26 @@ module _ (source : Module) (n : ℕ) (further : Means) (codes_further : Codes) (
     operation_here (Operand first (Operand second NoMore)) env (c ∷ d ∷ []) code one h = pairs_here code one first second env c d h.0 h.1.0 (code == 4) refl
     operation_here (Operand first (Operand second NoMore)) env (c ∷ d ∷ e ∷ codes) code one h = elim h.1.1 [ ]
     operation_here (Operand first (Operand second (Operand third more))) env (c ∷ d ∷ []) code one h = elim h.1.1 [ ]
-    operation_here (Operand first (Operand second (Operand third more))) env (c ∷ d ∷ e ∷ codes) code one h =
-        other_here _ _ (operator_here (Operand first (Operand second (Operand third more))) env (map tree_of (c ∷ d ∷ e ∷ codes)) code one (trees_here (Operand first (Operand second (Operand third more))) env (c ∷ d ∷ e ∷ codes) h))
+    operation_here (Operand first (Operand second (Operand third more))) env (c ∷ d ∷ e ∷ codes) code one h = operates_here (Operand first (Operand second (Operand third more))) env (c ∷ d ∷ e ∷ codes) code one h
 
     -- ---- calls
 
-    function_here : (operands : Operands) (env : Environment Tree) (codes : List Code) (f : Option Definition) (k : Option ℕ) → Located source.functions f k → AllHere operands env codes →
-        Here (operands_meaning source n further operands env (function_call source further f)) (call_of k codes)
+    function_here : (name : List ℕ) (operands : Operands) (env : Environment Tree) (codes : List Code) → AllHere operands env codes →
+        Here (operands_meaning source n further operands env (function_call source further (definition_named name source.functions))) (call_of name codes)
     unfolding Here
-    function_here operands env codes f k (corresponding.here g i at) p =
-        let it = calls g i at in
-        let list = tree_of (list_of codes) in
-        let go = λ (t : Tree). body_meaning further (body_of source g.params g.body) (function_environment g.params t) in
-        covered_same _ _ _ (natural source n further operands env (λ values. Value (list_tree values)) go)
-        (covered_third _ (λ m. plain m (call_code i list) here)
-        (covered_by _ _ _ (λ m. refines_equal _ _ (call_gives table argument m i list it.0 it.1))
-        (covered_then (list_value source n further operands env) (λ m. plain (suc m) list here) go (λ m t. plain (suc (suc m)) it.0 (Pair table t))
-        (λ a b le. plain_rises list here (suc a) (suc b) (omega arith))
-        (λ t a b le. plain_rises it.0 (Pair table t) (suc (suc a)) (suc (suc b)) (omega arith))
-        (covered_at_suc _ (λ m. plain m list here) (plain_rises list here) (list_here operands env codes p))
-        (λ t. covered_at_suc _ (λ m. plain (suc m) it.0 (Pair table t)) (λ a b le. plain_rises it.0 (Pair table t) (suc a) (suc b) (omega arith)) (covered_at_suc _ (λ m. plain m it.0 (Pair table t)) (plain_rises it.0 (Pair table t)) (it.2 t))))))
-    function_here operands env codes f k nowhere p =
-        let list = tree_of (list_of codes) in
-        covered_same _ _ _ (natural source n further operands env (λ values. Value (list_tree values)) (λ t. Failed))
-        (covered_suc _ (λ m. plain m (operator_code 8 (list ∷ [])) here)
-        (covered_by _ _ _ (λ m. refines_equal _ _ (sym (unknown_call m list here)))
-        (covered_then (list_value source n further operands env) (λ m. plain m list here) (λ t. Failed) (λ m t. Failed)
-        (plain_rises list here) (λ t. rises_same Failed) (list_here operands env codes p) (λ t. (0, same Failed)))))
+    function_here name operands env codes h = λ fit.
+        covered_same _ _ _ (called source n further operands env (definition_named name source.functions))
+        (calls name fit.0 argument (tree_of frame (list_of codes)) (list_value source n further operands env) (list_here operands env codes h fit.1))
 
     body_here : (f : Definition) (env : Environment Tree) (names : Names) → Corresponds argument env names → (read : Judged Expression) → body_of source f.params f.body ≡ read → Here (body_meaning further read env) (body_code codes_further read names)
     unfolding Here
     body_here f env names c (Ok e) is = goes e (module_scope source f.params) (is_sound (module_scope source f.params) f.body e is) env names argument c
-    body_here f env names c (Err first) is = covered_failing here
+    body_here f env names c (Err first) is = λ fit. covered_failing here
 
     inline_here : (operands : Operands) → AreSound scope operands → (env : Environment Tree) (names : Names) → Corresponds argument env names → (f : Option Definition) →
         Here (inline_call source further operands env f) (inline_code source codes_further operands names f)
     unfolding Here
-    inline_here operands s env names c None = covered_failing here
+    inline_here operands s env names c None = λ fit. covered_failing here
     inline_here operands s env names c (Some f) =
         body_here f (inline_environment f.params operands env) (inline_environment f.params operands names) (inline_corresponds argument scope f.params operands s env names c) (body_of source f.params f.body) refl
 
@@ -324,7 +328,7 @@ module _ (source : Module) (n : ℕ) (further : Means) (codes_further : Codes) (
       expression_here (Listing operands) s env names c = list_here operands env (operand_codes source codes_further operands names) (operands_here operands s env names c)
       expression_here (Operation code operands) s env names c = operation_here operands env (operand_codes source codes_further operands names) code s.0 (operands_here operands s.1 env names c)
       expression_here (FunctionCall name operands) s env names c =
-          function_here operands env (operand_codes source codes_further operands names) (definition_named name source.functions) (index_of name source.functions) (located name source.functions) (operands_here operands s.1 env names c)
+          function_here name operands env (operand_codes source codes_further operands names) (operands_here operands s.1 env names c)
       expression_here (InlineCall name operands) s env names c = inline_here operands s.1 env names c (definition_named name source.inlines)
       expression_here (Filled template) s env names c = template_here template s env names c
 

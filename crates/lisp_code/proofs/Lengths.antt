@@ -1,5 +1,5 @@
 -- How long the code of a module is.
-use Rattle.std.proofs.Common.{◌≡◌, ◌==◌, ℕ, zero, suc, ◌+◌, ◌*◌, ◌/◌, ◌^◌, ◌<◌, ◌≤◌, Bool, true, false, cond, ltb, List, [], ◌∷◌, ◌++◌, length, map, Option, Some, None, option_map, bytes_eq, refl, sym, ap, subst, arith}
+use Rattle.std.proofs.Common.{◌≡◌, ◌==◌, ℕ, zero, suc, ◌+◌, ◌*◌, ◌/◌, ◌^◌, ◌<◌, ◌≤◌, Bool, true, false, cond, ltb, List, [], ◌∷◌, ◌++◌, length, Option, Some, None, option_map, bytes_eq, refl, sym, ap, subst, arith}
 use Rattle.std.proofs.lemmas.List.{length-append}
 use Rattle.std.proofs.lemmas.Bool.{cond_both}
 use Rattle.std.proofs.lemmas.Int.Digits.{length-digits_of-le, number_digits_of, number_lt, all_below_base_digits_of}
@@ -9,14 +9,16 @@ use Rattle.clvm_spec.specs.Tree.{Tree, Atom, Pair, nil, list_tree}
 use Rattle.clvm_spec.specs.Spelling.{prefix, spelling, IsPrefixed, HasSpelling}
 use Rattle.lisp_spec.specs.Weights.{tree_weight}
 use Rattle.lisp_spec.specs.Parameters.{Side, ToFirst, ToRest}
-use Rattle.lisp_spec.specs.Modules.{Definition}
 use Rattle.clvm_spec.specs.Currying.{quote_of}
 use Rattle.lisp_code.specs.Paths.{path_number, path_atom}
-use Rattle.lisp_code.specs.Pieces.{operator_code, path_code, failing, pair_code, if_code, list_path}
-use Rattle.lisp_code.specs.Codes.{Code, Constant, Path, Other, constant_tree, tree_of, pair_of, list_of, step_of, operation_of, choice_of, call_code, call_of}
-use Rattle.lisp_code.specs.Code.{index_of}
+use Rattle.lisp_code.specs.Pieces.{operator_code, path_code, failing, pair_code}
+use Rattle.lisp_code.specs.Codes.{Code, Constant, Path, Other, Chooses, parts_of, operates, pair_of, list_of, step_of, operation_of, choice_of, call_of}
+use Rattle.lisp_code.specs.Frames.{Function, Places, Here, Fork, with_place, places_of, one_side, path_in, Frame, Bare, Wrapped, path_from, function_path, constant_tree, call_code, tree_of, piece_tree, trees_of, table, frame_of}
 use Rattle.lisp_code.proofs.Depths.{itself, looping}
 use Rattle.lisp_code.proofs.PathLaws.{bytes_of_bits}
+use Rattle.lisp_code.proofs.Corresponding.{path_longer}
+use Rattle.lisp_code.proofs.Reaching.{total}
+use Rattle.lisp_code.proofs.PlainForms.{if_of}
 
 abbrev pub size : Tree → ℕ
 size tree = length (spelling tree)
@@ -65,10 +67,6 @@ length_path path =
 pub size_path : (path : List Side) → size (path_code path) ≤ 6 + length path / 8
 size_path path = let a = size_atom (path_atom path) in let l = length_path path in omega arith
 
-length_list_path : (i : ℕ) → length (list_path i) ≡ suc i
-length_list_path zero = refl
-length_list_path (suc i) = ap suc (length_list_path i)
-
 -- ---- pieces
 
 pub size_quote : (tree : Tree) → size (quote_of tree) ≤ 3 + size tree
@@ -91,10 +89,15 @@ pub size_looping : size looping ≤ 48
 size_looping =
     let l = size_two 2 (quote_of itself) (quote_of itself) in let q = size_quote itself in let i = size_two 2 (path_code []) (path_code []) in let p = size_path [] in omega arith
 
-pub size_if : (t a b : Tree) → size (if_code t a b) ≤ 25 + (size t + size a + size b)
+pub size_constant : (tree : Tree) → size (constant_tree tree) ≤ 3 + size tree
+size_constant (Atom []) = omega arith
+size_constant (Atom (b ∷ bytes)) = size_quote (Atom (b ∷ bytes))
+size_constant (Pair a b) = size_quote (Pair a b)
+
+pub size_if : (t a b : Tree) → size (if_of t a b) ≤ 25 + (size t + size a + size b)
 size_if t a b =
-    let choice = operator_code 3 (t ∷ quote_of a ∷ quote_of b ∷ []) in
-    let l = size_two 2 choice (path_code []) in let p = size_path [] in let c = size_three 3 t (quote_of a) (quote_of b) in let qa = size_quote a in let qb = size_quote b in omega arith
+    let choice = operator_code 3 (t ∷ constant_tree a ∷ constant_tree b ∷ []) in
+    let l = size_two 2 choice (path_code []) in let p = size_path [] in let c = size_three 3 t (constant_tree a) (constant_tree b) in let qa = size_constant a in let qb = size_constant b in omega arith
 
 -- operands, each with 8 bytes to spare
 abbrev spare_trees : List Tree → ℕ
@@ -108,19 +111,6 @@ size_operands (operand ∷ operands) = let p = size_pair operand (list_tree oper
 size_operator : (code : ℕ) (operands : List Tree) → size (operator_code code operands) ≤ 4 + spare_trees operands
 size_operator code operands = let p = size_pair (Atom (code ∷ [])) (list_tree operands) in let b = size_byte code in let h = size_operands operands in omega arith
 
--- ---- codes
-
-abbrev pub code_size : Code → ℕ
-code_size code = size (tree_of code)
-
-abbrev pub spare_sizes : List Code → ℕ
-spare_sizes codes = spare_trees (map tree_of codes)
-
-pub size_constant : (tree : Tree) → size (constant_tree tree) ≤ 3 + size tree
-size_constant (Atom []) = omega arith
-size_constant (Atom (b ∷ bytes)) = size_quote (Atom (b ∷ bytes))
-size_constant (Pair a b) = size_quote (Pair a b)
-
 least_quote : (tree : Tree) → size tree ≤ size (quote_of tree)
 least_quote tree = let p = size_pair (Atom (1 ∷ [])) tree in omega arith
 
@@ -128,17 +118,6 @@ least_constant : (tree : Tree) → size tree ≤ size (constant_tree tree)
 least_constant (Atom []) = omega arith
 least_constant (Atom (b ∷ bytes)) = least_quote (Atom (b ∷ bytes))
 least_constant (Pair a b) = least_quote (Pair a b)
-
-pub size_pair_of : (a b : Code) → code_size (pair_of a b) ≤ 6 + (code_size a + code_size b)
-size_pair_of (Constant x) (Constant y) = let q = size_quote (Pair x y) in let p = size_pair x y in let lx = least_constant x in let ly = least_constant y in omega arith
-size_pair_of (Constant x) (Path path) = size_two 4 (constant_tree x) (path_code path)
-size_pair_of (Constant x) (Other tree) = size_two 4 (constant_tree x) tree
-size_pair_of (Path path) b = size_two 4 (path_code path) (tree_of b)
-size_pair_of (Other tree) b = size_two 4 tree (tree_of b)
-
-pub size_list_of : (codes : List Code) → code_size (list_of codes) ≤ 4 + spare_sizes codes
-size_list_of [] = omega arith
-size_list_of (code ∷ codes) = let p = size_pair_of code (list_of codes) in let h = size_list_of codes in omega arith
 
 -- A path with one step more has at most one byte more.
 longer_number : (path : List Side) (side : Side) → path_number (path ++ side ∷ []) ≤ 3 * path_number path
@@ -169,42 +148,124 @@ size_longer path side =
     let l : length (path_atom (path ++ side ∷ [])) ≤ suc (length bytes) = length-digits_of-le 256 (suc (length bytes)) (path_number (path ++ side ∷ [])) (omega arith) (omega arith) in
     let a = size_atom (path_atom (path ++ side ∷ [])) in let b = least_atom bytes in omega arith
 
-pub size_step_of : (side : Side) (code : Code) → code_size (step_of side code) ≤ 6 + code_size code
-size_step_of side (Path path) = size_longer path side
-size_step_of side (Constant tree) = let s = size_one_operand (step_code side) (constant_tree tree) in omega arith
-size_step_of side (Other tree) = let s = size_one_operand (step_code side) tree in omega arith
+-- ---- codes
 
-pub size_operation_of : (code : ℕ) (codes : List Code) → code_size (operation_of code codes) ≤ 4 + spare_sizes codes
-size_operation_of code [] = size_operator code []
-size_operation_of code (a ∷ []) =
-    cond_both (code == 5) _ _ (λ c. code_size c ≤ 4 + spare_sizes (a ∷ [])) (λ e. let s = size_step_of ToFirst a in omega arith)
-    (λ e. cond_both (code == 6) _ _ (λ c. code_size c ≤ 4 + spare_sizes (a ∷ [])) (λ e. let s = size_step_of ToRest a in omega arith) (λ e. size_operator code (tree_of a ∷ [])))
-size_operation_of code (a ∷ b ∷ []) =
-    cond_both (code == 4) _ _ (λ c. code_size c ≤ 4 + spare_sizes (a ∷ b ∷ [])) (λ e. let s = size_pair_of a b in omega arith) (λ e. size_operator code (tree_of a ∷ tree_of b ∷ []))
-size_operation_of code (a ∷ b ∷ c ∷ codes) = size_operator code (map tree_of (a ∷ b ∷ c ∷ codes))
+module _ (frame : Frame) where
+  abbrev pub code_size : Code → ℕ
+  code_size code = size (tree_of frame code)
 
-pub size_choice_of : (t a b : Code) → code_size (choice_of t a b) ≤ 25 + (code_size t + code_size a + code_size b)
-size_choice_of t (Constant x) (Constant y) = let s = size_three 3 (tree_of t) (constant_tree x) (constant_tree y) in omega arith
-size_choice_of t (Constant x) (Path path) = size_if (tree_of t) (constant_tree x) (path_code path)
-size_choice_of t (Constant x) (Other tree) = size_if (tree_of t) (constant_tree x) tree
-size_choice_of t (Path path) b = size_if (tree_of t) (path_code path) (tree_of b)
-size_choice_of t (Other tree) b = size_if (tree_of t) tree (tree_of b)
+  abbrev pub spare_sizes : List Code → ℕ
+  spare_sizes codes = spare_trees (trees_of frame (parts_of codes))
 
-index_either : (b : Bool) (later : Option ℕ) (bound i : ℕ) → ((j : ℕ) → later ≡ Some j → j < bound) → cond b (Some 0) (option_map (λ k. suc k) later) ≡ Some i → i < suc bound
-index_either true later bound i h e = let same : 0 ≡ i = cc in omega arith
-index_either false None bound i h e = absurd cc
-index_either false (Some j) bound i h e = let same : suc j ≡ i = cc in let below = h j refl in omega arith
+  size_operates : (code : ℕ) (codes : List Code) → code_size (operates code codes) ≤ 4 + spare_sizes codes
+  size_operates code codes = size_operator code (trees_of frame (parts_of codes))
 
-index_below : (name : List ℕ) (fs : List Definition) (i : ℕ) → index_of name fs ≡ Some i → i < length fs
-index_below name [] i e = absurd cc
-index_below name (d ∷ fs) i e = index_either (bytes_eq d.name name) (index_of name fs) (length fs) i (λ j h. index_below name fs j h) e
+  pub size_pair_of : (a b : Code) → code_size (pair_of a b) ≤ 6 + (code_size a + code_size b)
+  size_pair_of (Constant x) (Constant y) = let q = size_quote (Pair x y) in let p = size_pair x y in let lx = least_constant x in let ly = least_constant y in omega arith
+  size_pair_of (Constant x) (Path path) = size_two 4 (constant_tree x) (path_code (path_from frame path))
+  size_pair_of (Constant x) (Other piece) = size_two 4 (constant_tree x) (piece_tree frame piece)
+  size_pair_of (Path path) b = size_two 4 (path_code (path_from frame path)) (tree_of frame b)
+  size_pair_of (Other piece) b = size_two 4 (piece_tree frame piece) (tree_of frame b)
 
-size_call : (i functions : ℕ) (list : Tree) → i < functions → size (call_code i list) ≤ 36 + functions / 8 + size list
-size_call i functions list h =
-    let made = pair_code (path_code (ToFirst ∷ [])) list in
-    let l = size_two 2 (path_code (ToFirst ∷ list_path i)) made in let m = size_two 4 (path_code (ToFirst ∷ [])) list in
-    let p = size_path (ToFirst ∷ list_path i) in let n = length_list_path i in let q = size_path (ToFirst ∷ []) in omega arith
+  pub size_list_of : (codes : List Code) → code_size (list_of codes) ≤ 4 + spare_sizes codes
+  size_list_of [] = omega arith
+  size_list_of (code ∷ codes) = let p = size_pair_of code (list_of codes) in let h = size_list_of codes in omega arith
 
-pub size_call_of : (name : List ℕ) (fs : List Definition) (i : Option ℕ) → index_of name fs ≡ i → (codes : List Code) → code_size (call_of i codes) ≤ 40 + length fs / 8 + spare_sizes codes
-size_call_of name fs None e codes = let l = size_one_operand 8 (tree_of (list_of codes)) in let m = size_list_of codes in omega arith
-size_call_of name fs (Some i) e codes = let l = size_call i (length fs) (tree_of (list_of codes)) (index_below name fs i e) in let m = size_list_of codes in omega arith
+  pub size_step_of : (side : Side) (code : Code) → code_size (step_of side code) ≤ 6 + code_size code
+  size_step_of side (Path path) =
+      subst (λ p. size (path_code p) ≤ 6 + size (path_code (path_from frame path))) (sym (path_longer frame path side)) (size_longer (path_from frame path) side)
+  size_step_of side (Constant tree) = let s = size_one_operand (step_code side) (constant_tree tree) in omega arith
+  size_step_of side (Other piece) = let s = size_one_operand (step_code side) (piece_tree frame piece) in omega arith
+
+  pub size_operation_of : (code : ℕ) (codes : List Code) → code_size (operation_of code codes) ≤ 4 + spare_sizes codes
+  size_operation_of code [] = size_operates code []
+  size_operation_of code (a ∷ []) =
+      cond_both (code == 5) _ _ (λ c. code_size c ≤ 4 + spare_sizes (a ∷ [])) (λ e. let s = size_step_of ToFirst a in omega arith)
+      (λ e. cond_both (code == 6) _ _ (λ c. code_size c ≤ 4 + spare_sizes (a ∷ [])) (λ e. let s = size_step_of ToRest a in omega arith) (λ e. size_operates code (a ∷ [])))
+  size_operation_of code (a ∷ b ∷ []) =
+      cond_both (code == 4) _ _ (λ c. code_size c ≤ 4 + spare_sizes (a ∷ b ∷ [])) (λ e. let s = size_pair_of a b in omega arith) (λ e. size_operates code (a ∷ b ∷ []))
+  size_operation_of code (a ∷ b ∷ c ∷ codes) = size_operates code (a ∷ b ∷ c ∷ codes)
+
+  size_chooses : (t a b : Code) → code_size (Other (Chooses t a b)) ≤ 25 + (code_size t + code_size a + code_size b)
+  size_chooses t a b = size_if (tree_of frame t) (tree_of frame a) (tree_of frame b)
+
+  pub size_choice_of : (t a b : Code) → code_size (choice_of t a b) ≤ 25 + (code_size t + code_size a + code_size b)
+  size_choice_of t (Constant x) (Constant y) = let s = size_three 3 (tree_of frame t) (constant_tree x) (constant_tree y) in omega arith
+  size_choice_of t (Constant x) (Path path) = size_chooses t (Constant x) (Path path)
+  size_choice_of t (Constant x) (Other piece) = size_chooses t (Constant x) (Other piece)
+  size_choice_of t (Path path) b = size_chooses t (Path path) b
+  size_choice_of t (Other piece) b = size_chooses t (Other piece) b
+
+  -- Paths to functions have no more steps than this.
+  abbrev pub PathsAreWithin : ℕ → Type 0
+  PathsAreWithin most = (name : List ℕ) (path : List Side) → function_path frame name ≡ Some path → length path ≤ most
+
+  size_call : (most : ℕ) (found : Option (List Side)) (list : Tree) → ((path : List Side) → found ≡ Some path → length path ≤ most) → size (call_code found list) ≤ 36 + most / 8 + size list
+  size_call most None list room = let l = size_one_operand 8 list in omega arith
+  size_call most (Some path) list room =
+      let made = pair_code (path_code (ToFirst ∷ [])) list in
+      let l = size_two 2 (path_code path) made in let m = size_two 4 (path_code (ToFirst ∷ [])) list in
+      let p = size_path path in let n = room path refl in let q = size_path (ToFirst ∷ []) in omega arith
+
+  pub size_call_of : (most : ℕ) → PathsAreWithin most → (name : List ℕ) (codes : List Code) → code_size (call_of name codes) ≤ 40 + most / 8 + spare_sizes codes
+  size_call_of most room name codes = let l = size_call most (function_path frame name) (tree_of frame (list_of codes)) (room name) in let m = size_list_of codes in omega arith
+
+pub size_own_path : (frame : Frame) (path : List Side) → size (path_code (path_from frame path)) ≤ 6 + suc (length path) / 8
+size_own_path Bare path = let s = size_path path in omega arith
+size_own_path (Wrapped places) path = size_path (ToRest ∷ path)
+
+-- ---- the functions
+
+abbrev pub entry_size : Frame → Function → ℕ
+entry_size frame f = 1 + code_size frame f.code
+
+size_with : (frame : Frame) (f : Function) (places : Places) → size (table frame (with_place f places)) ≡ entry_size frame f + size (table frame places)
+size_with frame f (Here g) = let p = size_pair (tree_of frame f.code) (tree_of frame g.code) in omega arith
+size_with frame f (Fork first rest) =
+    let p = size_pair (table frame (with_place f rest)) (table frame first) in let q = size_pair (table frame first) (table frame rest) in let h = size_with frame f rest in omega arith
+
+pub size_table : (frame : Frame) (f : Function) (fs : List Function) → suc (size (table frame (places_of f fs))) ≡ total (entry_size frame) (f ∷ fs)
+size_table frame f [] = omega arith
+size_table frame f (g ∷ fs) = let w = size_with frame f (places_of g fs) in let h = size_table frame g fs in omega arith
+
+-- A path is no longer than there are functions.
+abbrev count : Places → ℕ
+count (Here f) = 1
+count (Fork first rest) = count first + count rest
+
+count_with : (f : Function) (places : Places) → count (with_place f places) ≡ suc (count places)
+count_with f (Here g) = refl
+count_with f (Fork first rest) = let h = count_with f rest in omega arith
+
+count_of : (f : Function) (fs : List Function) → count (places_of f fs) ≡ length (f ∷ fs)
+count_of f [] = refl
+count_of f (g ∷ fs) = let w = count_with f (places_of g fs) in let h = count_of g fs in omega arith
+
+count_above : (places : Places) → 1 ≤ count places
+count_above (Here f) = omega arith
+count_above (Fork first rest) = let h = count_above first in omega arith
+
+path_one : (b : Bool) (path : List Side) → cond b (Some []) None ≡ Some path → length path ≡ 0
+path_one true path e = let same : [] ≡ path = cc in ap length (sym same)
+path_one false path e = absurd cc
+
+path_side : (first rest : Option (List Side)) (m n : ℕ) → 1 ≤ m → 1 ≤ n → ((path : List Side) → first ≡ Some path → length path < m) → ((path : List Side) → rest ≡ Some path → length path < n) →
+    (path : List Side) → one_side first rest ≡ Some path → length path < m + n
+path_side (Some found) rest m n a b p q path e = let same : ToFirst ∷ found ≡ path = cc in let h = p found refl in subst (λ path. length path < m + n) same (omega arith)
+path_side None (Some found) m n a b p q path e = let same : ToRest ∷ found ≡ path = cc in let h = q found refl in subst (λ path. length path < m + n) same (omega arith)
+path_side None None m n a b p q path e = absurd cc
+
+path_short : (name : List ℕ) (places : Places) (path : List Side) → path_in name places ≡ Some path → length path < count places
+path_short name (Here f) path e = let h = path_one (bytes_eq f.name name) path e in omega arith
+path_short name (Fork first rest) path e =
+    path_side (path_in name first) (path_in name rest) (count first) (count rest) (count_above first) (count_above rest) (path_short name first) (path_short name rest) path e
+
+from_first : (found : Option (List Side)) (most : ℕ) → ((path : List Side) → found ≡ Some path → length path < most) → (path : List Side) → option_map (λ path. ToFirst ∷ path) found ≡ Some path → length path ≤ most
+from_first None most h path e = absurd cc
+from_first (Some found) most h path e = let same : ToFirst ∷ found ≡ path = cc in let k = h found refl in subst (λ path. length path ≤ most) same (omega arith)
+
+pub frame_paths : (fs : List Function) → PathsAreWithin (frame_of fs) (length fs)
+frame_paths [] name path e = absurd cc
+frame_paths (f ∷ fs) name path e =
+    let c = count_of f fs in
+    from_first (path_in name (places_of f fs)) (length (f ∷ fs)) (λ path e. let h = path_short name (places_of f fs) path e in omega arith) path e

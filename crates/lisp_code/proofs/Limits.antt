@@ -2,13 +2,13 @@
 use Rattle.std.proofs.Common.{◌≡◌, ℕ, suc, List, [], ◌∷◌, Option, Some, None, Ok, Err}
 use Rattle.lisp_spec.specs.Modules.{Definition, definition_named, constant_named}
 use Rattle.lisp_spec.specs.ModuleFaults.{Judged}
-use Rattle.lisp_spec.specs.Parameters.{Side, ToRest}
+use Rattle.lisp_spec.specs.Parameters.{Side}
 use Rattle.lisp_spec.specs.Expressions.{Expression, Literal, Name, Choice, Listing, Operation, FunctionCall, InlineCall, Filled, Operands, NoMore, Operand, Template, Plain, Both, Unquoted}
 use Rattle.lisp_spec.specs.Scopes.{body_of}
 use Rattle.lisp_spec.specs.Environments.{Binding, ToFound, ToNoStep, ToExpression, ToNothing, binding_of, inline_environment}
 use Rattle.lisp_code.specs.Names.{Names}
 use Rattle.lisp_code.specs.Codes.{Code, Constant, Path, fails, pair_of, list_of, operation_of, choice_of, call_of}
-use Rattle.lisp_code.specs.Code.{Codes, index_of, constant_code, name_code, body_code, inline_code, expression_code, operand_codes, template_code}
+use Rattle.lisp_code.specs.Code.{Codes, constant_code, name_code, body_code, inline_code, expression_code, operand_codes, template_code}
 use Rattle.lisp_code.proofs.Eventually.{Eventually, eventually_same, eventually_map, eventually_two, eventually_suc, eventually_alike, eventually_one}
 use Rattle.lisp_code.proofs.Making.{each_marked, Making, further_of}
 
@@ -34,7 +34,7 @@ module _ (it : Making) (code : Codes) (limits : (e : Expression) (names : Names)
   TemplateLimit t names = Eventually (λ b. template_code it.source (further_of it b) t names) (template_code it.source onward t names)
 
   name_limit : (name : List ℕ) (d : Binding (List Side)) → Eventually (λ b. name_code it.source (further_of it b) name d) (name_code it.source onward name d)
-  name_limit name (ToFound path) = eventually_same (Path (ToRest ∷ path))
+  name_limit name (ToFound path) = eventually_same (Path path)
   name_limit name ToNoStep = eventually_same fails
   name_limit name (ToExpression e there) = onward_limit e there
   name_limit name ToNothing = eventually_same (constant_code (constant_named name it.source.constants))
@@ -57,7 +57,7 @@ module _ (it : Making) (code : Codes) (limits : (e : Expression) (names : Names)
     expression_limit (Choice condition second third) names = choice_limit condition second third names (expression_limit condition names) (expression_limit second names) (expression_limit third names)
     expression_limit (Listing operands) names = eventually_map list_of _ _ (operands_limit operands names)
     expression_limit (Operation code operands) names = eventually_map (operation_of code) _ _ (operands_limit operands names)
-    expression_limit (FunctionCall name operands) names = eventually_map (call_of (index_of name it.source.functions)) _ _ (operands_limit operands names)
+    expression_limit (FunctionCall name operands) names = eventually_map (call_of name) _ _ (operands_limit operands names)
     expression_limit (InlineCall name operands) names = inline_limit operands names (definition_named name it.source.inlines)
     expression_limit (Filled template) names = template_limit template names
 

@@ -1,15 +1,13 @@
 -- How names and functions are found on both sides.
-use Rattle.std.proofs.Common.{◌≡◌, ℕ, suc, Bool, true, false, cond, List, [], ◌∷◌, Option, Some, None, option_map, bytes_eq, refl}
+use Rattle.std.proofs.Common.{◌≡◌, ℕ, Bool, true, false, cond, List, [], ◌∷◌, Option, Some, None, bytes_eq, refl}
 use Rattle.clvm_spec.specs.Tree.{Tree}
 use Rattle.lisp_spec.specs.Forms.{Form}
-use Rattle.lisp_spec.specs.Modules.{Definition, definition_named}
 use Rattle.lisp_spec.specs.Parameters.{Side, Parameter, parameters, tree_at}
 use Rattle.lisp_spec.specs.Expressions.{Expression, Operands, Scope}
 use Rattle.lisp_spec.specs.Environments.{Environment, Bound, Binding, binding_of, bound_to, all_bound, function_environment, operand_at, standing, expressions_bound, inline_environment}
 use Rattle.lisp_spec.proofs.Soundness.{AreSound, IsSoundOption, sound_at}
 use Rattle.lisp_code.specs.Names.{Names, function_names}
-use Rattle.lisp_code.specs.Code.{index_of}
-use Rattle.lisp_code.proofs.Corresponding.{Corresponds, empty, at_tree, at_none, missing, stands, SameName, to_tree, to_no_step, no_path, expression, nothing, Located, here, nowhere}
+use Rattle.lisp_code.proofs.Corresponding.{Corresponds, empty, at_tree, at_none, missing, stands, SameName, to_tree, to_no_step, no_path, expression, nothing}
 
 module _ (argument : Tree) where
   bound_corresponds : (name : List ℕ) (path : List Side) (found : Option Tree) → tree_at path argument ≡ found → (env : Environment Tree) (names : Names) → Corresponds argument env names → Corresponds argument (bound_to name found env) (Bound name path names)
@@ -46,17 +44,3 @@ module _ (argument : Tree) where
   same_name name env names (at_none other path env' names' e c) = one_of (bytes_eq other name) _ _ _ _ (to_no_step path e) (same_name name env' names' c)
   same_name name env names (missing other env' names' c) = one_of (bytes_eq other name) _ _ _ _ no_path (same_name name env' names' c)
   same_name name env names (stands other e scope there env' there' names' s d c) = one_of (bytes_eq other name) _ _ _ _ (expression e scope there there' s d) (same_name name env' names' c)
-
--- ---- functions
-
-later : (d : Definition) (more : List Definition) (f : Option Definition) (k : Option ℕ) → Located more f k → Located (d ∷ more) f (option_map (λ k. suc k) k)
-later d more f k (here g n e) = here g (suc n) (λ code. e code)
-later d more f k nowhere = nowhere
-
-one_location : (fs : List Definition) (b : Bool) (f g : Option Definition) (k n : Option ℕ) → Located fs f k → Located fs g n → Located fs (cond b f g) (cond b k n)
-one_location fs true f g k n p q = p
-one_location fs false f g k n p q = q
-
-pub located : (name : List ℕ) (fs : List Definition) → Located fs (definition_named name fs) (index_of name fs)
-located name [] = nowhere
-located name (d ∷ more) = one_location (d ∷ more) (bytes_eq d.name name) _ _ _ _ (here d 0 (λ g. refl)) (later d more _ _ (located name more))

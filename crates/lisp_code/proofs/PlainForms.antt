@@ -13,8 +13,8 @@ use Rattle.clvm_spec.specs.Currying.{quote_of}
 use Rattle.lisp_code.proofs.Refining.{Refines, out, same, Rises}
 use Rattle.lisp_code.proofs.Plain.{Runs, plain_run, plain_apply, plain_values, plain_form, plain_by, plain}
 use Rattle.lisp_code.proofs.Plain.{found_meaning}
-use Rattle.lisp_code.specs.Pieces.{operator_code, path_code, failing, pair_code, if_code, list_path}
-use Rattle.lisp_code.specs.Codes.{constant_tree, call_code}
+use Rattle.lisp_code.specs.Pieces.{operator_code, path_code, failing, pair_code, if_code}
+use Rattle.lisp_code.specs.Frames.{constant_tree, call_code}
 use Rattle.lisp_code.proofs.Depths.{itself, looping}
 use Rattle.lisp_code.proofs.Refined.{refines_equal, refines_then, refines_cond, refines_trans, if_value_if_value}
 use Rattle.lisp_code.proofs.PathLaws.{path_leads}
@@ -105,73 +105,7 @@ value_then x v go r p q = refines_trans (if_value x go) (go v) r (refines_then x
 abbrev pub picked : Tree → Tree → Tree → Tree
 picked test a b = cond (is_nil test) b a
 
-choice_says : (m : ℕ) (t a b env : Tree) → Refines (plain m (operator_code 3 (t ∷ quote_of a ∷ quote_of b ∷ [])) env) (if_value (plain m t env) (λ v. Value (picked v a b)))
-unfolding applied operator_of
-choice_says zero t a b env = out _
-choice_says (suc m) t a b env =
-    let is = plain_operator m 3 (t ∷ quote_of a ∷ quote_of b ∷ []) env refl in
-    refines_trans _ _ _ (refines_equal _ _ is)
-    (value_then _ b _ _ (quote_says m b env) (value_then _ a _ _ (quote_says m a env)
-    (refines_then _ _ _ _ (plain_rises t env m (suc m) (omega arith)) (λ v. same (Value (picked v a b))))))
-
-pub if_says : (m : ℕ) (t a b env : Tree) → Refines (plain (suc m) (if_code t a b) env) (if_value (plain m t env) (λ v. plain m (picked v a b) env))
-if_says m t a b env =
-    let choice = operator_code 3 (t ∷ quote_of a ∷ quote_of b ∷ []) in
-    let is = plain_operator m 2 (choice ∷ path_code [] ∷ []) env refl in
-    refines_trans _ _ _ (refines_equal _ _ is)
-    (value_then _ env _ _ (path_says m [] env env refl)
-    (refines_trans _ _ _ (refines_then _ _ _ _ (choice_says m t a b env) (λ p. same (plain m p env)))
-    (refines_equal _ _ (if_value_if_value (plain m t env) (λ v. Value (picked v a b)) (λ p. plain m p env)))))
-
-pub if_gives : (m : ℕ) (t a b env : Tree) → if_value (plain (suc m) t env) (λ v. plain (suc (suc m)) (picked v a b) env) ≡ plain (suc (suc (suc m))) (if_code t a b) env
-unfolding applied operator_of
-if_gives m t a b env =
-    let choice = operator_code 3 (t ∷ quote_of a ∷ quote_of b ∷ []) in
-    let is = plain_operator (suc (suc m)) 2 (choice ∷ path_code [] ∷ []) env refl in
-    let chooses = plain_operator (suc m) 3 (t ∷ quote_of a ∷ quote_of b ∷ []) env refl in
-    sym (is
-    ∙ ap (λ x. if_value x (λ e. if_value (plain (suc (suc m)) choice env) (λ p. plain (suc (suc m)) p e))) (plain_path (suc m) [] env)
-    ∙ ap (λ x. if_value x (λ p. plain (suc (suc m)) p env)) chooses
-    ∙ if_value_if_value (plain (suc m) t env) (λ v. Value (picked v a b)) (λ p. plain (suc (suc m)) p env))
-
-module _ (table argument : Tree) where
-  with_table_says : (m : ℕ) (list : Tree) → Refines (plain m (pair_code (path_code (ToFirst ∷ [])) list) (Pair table argument)) (if_value (plain m list (Pair table argument)) (λ t. Value (Pair table t)))
-  with_table_says zero list = out _
-  with_table_says (suc m) list =
-      refines_trans _ _ _ (refines_equal _ _ (plain_pair m (path_code (ToFirst ∷ [])) list (Pair table argument)))
-      (refines_then _ _ _ _ (plain_rises list (Pair table argument) m (suc m) (omega arith))
-      (λ t. value_then _ table _ _ (path_says m (ToFirst ∷ []) (Pair table argument) table refl) (same (Value (Pair table t)))))
-
-  pub call_says : (m k : ℕ) (list : Tree) (code : Tree) → tree_at (list_path k) table ≡ Some code →
-      Refines (plain (suc m) (call_code k list) (Pair table argument)) (if_value (plain m list (Pair table argument)) (λ t. plain m code (Pair table t)))
-  call_says m k list code e =
-      let env = Pair table argument in
-      let made = pair_code (path_code (ToFirst ∷ [])) list in
-      let is = plain_operator m 2 (path_code (ToFirst ∷ list_path k) ∷ made ∷ []) env refl in
-      refines_trans _ _ _ (refines_equal _ _ is)
-      (refines_trans _ _ _ (refines_then _ _ _ _ (with_table_says m list) (λ e'. value_then _ code _ _ (path_says m (ToFirst ∷ list_path k) env code e) (same (plain m code e'))))
-      (refines_equal _ _ (if_value_if_value (plain m list env) (λ t. Value (Pair table t)) (λ e'. plain m code e'))))
-
-  pub call_gives : (m k : ℕ) (list : Tree) (code : Tree) → tree_at (list_path k) table ≡ Some code →
-      if_value (plain (suc m) list (Pair table argument)) (λ t. plain (suc (suc m)) code (Pair table t)) ≡ plain (suc (suc (suc m))) (call_code k list) (Pair table argument)
-  call_gives m k list code e =
-      let env = Pair table argument in
-      let made = pair_code (path_code (ToFirst ∷ [])) list in
-      let is = plain_operator (suc (suc m)) 2 (path_code (ToFirst ∷ list_path k) ∷ made ∷ []) env refl in
-      let finds : plain (suc (suc m)) (path_code (ToFirst ∷ list_path k)) env ≡ Value code = plain_path (suc m) (ToFirst ∷ list_path k) env ∙ ap found_meaning e in
-      let makes : plain (suc (suc m)) made env ≡ if_value (plain (suc m) list env) (λ t. Value (Pair table t)) =
-      plain_pair (suc m) (path_code (ToFirst ∷ [])) list env
-      ∙ ap (λ x. if_value (plain (suc m) list env) (λ t. if_value x (λ a. Value (Pair a t)))) (plain_path m (ToFirst ∷ []) env) in
-      sym (is
-      ∙ ap (λ x. if_value (plain (suc (suc m)) made env) (λ e'. if_value x (λ p. plain (suc (suc m)) p e'))) finds
-      ∙ ap (λ x. if_value x (λ e'. plain (suc (suc m)) code e')) makes
-      ∙ if_value_if_value (plain (suc m) list env) (λ t. Value (Pair table t)) (λ e'. plain (suc (suc m)) code e'))
-
-pub unknown_call : (m : ℕ) (list env : Tree) → plain (suc m) (operator_code 8 (list ∷ [])) env ≡ if_value (plain m list env) (λ t. Failed)
-unfolding applied operator_of
-unknown_call m list env = plain_operator m 8 (list ∷ []) env refl
-
--- ---- constants and steps
+-- ---- constants
 
 pub constant_is : (m : ℕ) (tree env : Tree) → plain (suc m) (constant_tree tree) env ≡ Value tree
 constant_is m (Atom []) env = refl
@@ -189,6 +123,76 @@ constant_choice m t a b env =
     plain_operator (suc m) 3 (t ∷ constant_tree a ∷ constant_tree b ∷ []) env refl
     ∙ ap (λ x. if_value x (λ vb. if_value (plain (suc m) (constant_tree a) env) (λ va. if_value (plain (suc m) t env) (λ v. operator_meaning (applied (3 ∷ []) (v ∷ va ∷ vb ∷ [])))))) (constant_is m b env)
     ∙ ap (λ x. if_value x (λ va. if_value (plain (suc m) t env) (λ v. operator_meaning (applied (3 ∷ []) (v ∷ va ∷ b ∷ []))))) (constant_is m a env)
+
+choice_says : (m : ℕ) (t a b env : Tree) → Refines (plain m (operator_code 3 (t ∷ constant_tree a ∷ constant_tree b ∷ [])) env) (if_value (plain m t env) (λ v. Value (picked v a b)))
+unfolding applied operator_of
+choice_says zero t a b env = out _
+choice_says (suc m) t a b env =
+    let is = plain_operator m 3 (t ∷ constant_tree a ∷ constant_tree b ∷ []) env refl in
+    refines_trans _ _ _ (refines_equal _ _ is)
+    (value_then _ b _ _ (constant_says m b env) (value_then _ a _ _ (constant_says m a env)
+    (refines_then _ _ _ _ (plain_rises t env m (suc m) (omega arith)) (λ v. same (Value (picked v a b))))))
+
+-- `if`, with code of two expressions
+abbrev pub if_of : Tree → Tree → Tree → Tree
+if_of t a b = if_code t (constant_tree a) (constant_tree b)
+
+pub if_says : (m : ℕ) (t a b env : Tree) → Refines (plain (suc m) (if_of t a b) env) (if_value (plain m t env) (λ v. plain m (picked v a b) env))
+if_says m t a b env =
+    let choice = operator_code 3 (t ∷ constant_tree a ∷ constant_tree b ∷ []) in
+    let is = plain_operator m 2 (choice ∷ path_code [] ∷ []) env refl in
+    refines_trans _ _ _ (refines_equal _ _ is)
+    (value_then _ env _ _ (path_says m [] env env refl)
+    (refines_trans _ _ _ (refines_then _ _ _ _ (choice_says m t a b env) (λ p. same (plain m p env)))
+    (refines_equal _ _ (if_value_if_value (plain m t env) (λ v. Value (picked v a b)) (λ p. plain m p env)))))
+
+pub if_gives : (m : ℕ) (t a b env : Tree) → if_value (plain (suc m) t env) (λ v. plain (suc (suc m)) (picked v a b) env) ≡ plain (suc (suc (suc m))) (if_of t a b) env
+if_gives m t a b env =
+    let choice = operator_code 3 (t ∷ constant_tree a ∷ constant_tree b ∷ []) in
+    let is = plain_operator (suc (suc m)) 2 (choice ∷ path_code [] ∷ []) env refl in
+    sym (is
+    ∙ ap (λ x. if_value x (λ e. if_value (plain (suc (suc m)) choice env) (λ p. plain (suc (suc m)) p e))) (plain_path (suc m) [] env)
+    ∙ ap (λ x. if_value x (λ p. plain (suc (suc m)) p env)) (constant_choice m t a b env)
+    ∙ if_value_if_value (plain (suc m) t env) (λ v. Value (picked v a b)) (λ p. plain (suc (suc m)) p env))
+
+module _ (table argument : Tree) where
+  with_table_says : (m : ℕ) (list : Tree) → Refines (plain m (pair_code (path_code (ToFirst ∷ [])) list) (Pair table argument)) (if_value (plain m list (Pair table argument)) (λ t. Value (Pair table t)))
+  with_table_says zero list = out _
+  with_table_says (suc m) list =
+      refines_trans _ _ _ (refines_equal _ _ (plain_pair m (path_code (ToFirst ∷ [])) list (Pair table argument)))
+      (refines_then _ _ _ _ (plain_rises list (Pair table argument) m (suc m) (omega arith))
+      (λ t. value_then _ table _ _ (path_says m (ToFirst ∷ []) (Pair table argument) table refl) (same (Value (Pair table t)))))
+
+  pub call_says : (m : ℕ) (path : List Side) (list : Tree) (code : Tree) → tree_at path table ≡ Some code →
+      Refines (plain (suc m) (call_code (Some (ToFirst ∷ path)) list) (Pair table argument)) (if_value (plain m list (Pair table argument)) (λ t. plain m code (Pair table t)))
+  call_says m path list code e =
+      let env = Pair table argument in
+      let made = pair_code (path_code (ToFirst ∷ [])) list in
+      let is = plain_operator m 2 (path_code (ToFirst ∷ path) ∷ made ∷ []) env refl in
+      refines_trans _ _ _ (refines_equal _ _ is)
+      (refines_trans _ _ _ (refines_then _ _ _ _ (with_table_says m list) (λ e'. value_then _ code _ _ (path_says m (ToFirst ∷ path) env code e) (same (plain m code e'))))
+      (refines_equal _ _ (if_value_if_value (plain m list env) (λ t. Value (Pair table t)) (λ e'. plain m code e'))))
+
+  pub call_gives : (m : ℕ) (path : List Side) (list : Tree) (code : Tree) → tree_at path table ≡ Some code →
+      if_value (plain (suc m) list (Pair table argument)) (λ t. plain (suc (suc m)) code (Pair table t)) ≡ plain (suc (suc (suc m))) (call_code (Some (ToFirst ∷ path)) list) (Pair table argument)
+  call_gives m path list code e =
+      let env = Pair table argument in
+      let made = pair_code (path_code (ToFirst ∷ [])) list in
+      let is = plain_operator (suc (suc m)) 2 (path_code (ToFirst ∷ path) ∷ made ∷ []) env refl in
+      let finds : plain (suc (suc m)) (path_code (ToFirst ∷ path)) env ≡ Value code = plain_path (suc m) (ToFirst ∷ path) env ∙ ap found_meaning e in
+      let makes : plain (suc (suc m)) made env ≡ if_value (plain (suc m) list env) (λ t. Value (Pair table t)) =
+      plain_pair (suc m) (path_code (ToFirst ∷ [])) list env
+      ∙ ap (λ x. if_value (plain (suc m) list env) (λ t. if_value x (λ a. Value (Pair a t)))) (plain_path m (ToFirst ∷ []) env) in
+      sym (is
+      ∙ ap (λ x. if_value (plain (suc (suc m)) made env) (λ e'. if_value x (λ p. plain (suc (suc m)) p e'))) finds
+      ∙ ap (λ x. if_value x (λ e'. plain (suc (suc m)) code e')) makes
+      ∙ if_value_if_value (plain (suc m) list env) (λ t. Value (Pair table t)) (λ e'. plain (suc (suc m)) code e'))
+
+pub unknown_call : (m : ℕ) (list env : Tree) → plain (suc m) (operator_code 8 (list ∷ [])) env ≡ if_value (plain m list env) (λ t. Failed)
+unfolding applied operator_of
+unknown_call m list env = plain_operator m 8 (list ∷ []) env refl
+
+-- ---- steps
 
 -- A step into what a path leads to is one more step of the path.
 pub found_step : (n : ℕ) (side : Side) (path : List Side) (env : Tree) → if_value (found_meaning (tree_at path env)) (λ v. operate n (step_code side) (v ∷ [])) ≡ found_meaning (tree_at (path ++ side ∷ []) env)

@@ -14,7 +14,7 @@ use Rattle.lisp_spec.proofs.CycleProofs.{same_is}
 use Rattle.lisp_spec.proofs.NestingProofs.{Shallow, shallow}
 use Rattle.lisp_code.specs.Names.{Names}
 use Rattle.lisp_code.specs.Codes.{Code, Constant, Path, fails, pair_of, list_of, operation_of, choice_of, call_of}
-use Rattle.lisp_code.specs.Code.{index_of, constant_code, name_code, body_code, inline_code, expression_code, operand_codes, template_code}
+use Rattle.lisp_code.specs.Code.{constant_code, name_code, body_code, inline_code, expression_code, operand_codes, template_code}
 use Rattle.lisp_code.proofs.Eventually.{Eventually}
 use Rattle.lisp_code.proofs.Making.{Making, further_of}
 
@@ -172,7 +172,7 @@ module _ (it : Making) (depth : ℕ) where
         body_steady name s f is (inline_environment f.params operands names) (inline_good it (parameters f.params) operands names each) (body_of it.source f.params f.body) refl
 
     name_steady : (name : List ℕ) (d : Binding (List Side)) → GoodBinding it d → Steady (λ b. name_code it.source (further_of it b) name d)
-    name_steady name (ToFound path) g = steady_same (Path (ToRest ∷ path))
+    name_steady name (ToFound path) g = steady_same (Path path)
     name_steady name ToNoStep g = steady_same fails
     name_steady name (ToExpression e there) g = steady_map it.mark (λ b. it.made b e there) g
     name_steady name ToNothing g = steady_same (constant_code (constant_named name it.source.constants))
@@ -193,7 +193,7 @@ module _ (it : Making) (depth : ℕ) where
       expression_steady (Listing operands) names g s = steady_map list_of (operands_at_depth it operands names) (codes_steady it operands names (operands_steady operands names g s))
       expression_steady (Operation code operands) names g s = steady_map (operation_of code) (operands_at_depth it operands names) (codes_steady it operands names (operands_steady operands names g s))
       expression_steady (FunctionCall name operands) names g s =
-          steady_map (call_of (index_of name it.source.functions)) (operands_at_depth it operands names) (codes_steady it operands names (operands_steady operands names g s))
+          steady_map (call_of name) (operands_at_depth it operands names) (codes_steady it operands names (operands_steady operands names g s))
       expression_steady (InlineCall name operands) names g s =
           inline_steady name (s name (among_first name (called_by_operands operands))) operands names (operands_steady operands names g (behind (name ∷ []) (called_by_operands operands) s)) (definition_named name it.source.inlines) refl
       expression_steady (Filled template) names g s = template_steady template names g s

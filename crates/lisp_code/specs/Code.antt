@@ -1,24 +1,17 @@
 -- The code that this project makes of a module. Source: this project's own; it is made so that it agrees with what the
 -- module means.
-use Rattle.std.specs.Prelude.{ℕ, suc, List, [], ◌∷◌, map, Option, Some, None, Ok, Err, option_map, bytes_eq, if◌then◌else◌}
-use Rattle.clvm_spec.specs.declared.op_codes.TheConstants.{APPLY}
-use Rattle.clvm_spec.specs.Tree.{Tree, list_tree}
-use Rattle.clvm_spec.specs.Currying.{quote_of}
+use Rattle.std.specs.Prelude.{ℕ, List, [], ◌∷◌, map, Option, Some, None, Ok, Err}
+use Rattle.clvm_spec.specs.Tree.{Tree}
 use Rattle.lisp_spec.specs.Modules as modules
 use Rattle.lisp_spec.specs.Modules.{Module, Definition, definition_named, constant_named}
 use Rattle.lisp_spec.specs.ModuleFaults.{Judged}
-use Rattle.lisp_spec.specs.Parameters.{Side, ToRest}
+use Rattle.lisp_spec.specs.Parameters.{Side}
 use Rattle.lisp_spec.specs.Expressions.{Expression, Literal, Name, Choice, Listing, Operation, FunctionCall, InlineCall, Filled, Operands, NoMore, Operand, Template, Plain, Both, Unquoted}
 use Rattle.lisp_spec.specs.Scopes.{body_of}
 use Rattle.lisp_spec.specs.Environments.{Binding, ToFound, ToNoStep, ToExpression, ToNothing, binding_of, inline_environment}
 use Rattle.lisp_code.specs.Names.{Names, function_names}
-use Rattle.lisp_code.specs.Pieces.{operator_code, path_code, pair_code}
-use Rattle.lisp_code.specs.Codes.{Code, Constant, Path, tree_of, fails, pair_of, list_of, operation_of, choice_of, call_of}
-
--- the number of a function, from 0, in the order of the module
-abbrev pub index_of : List ℕ → List Definition → Option ℕ
-index_of name [] = None
-index_of name (d ∷ more) = if bytes_eq d.name name then Some 0 else option_map (λ k. suc k) (index_of name more)
+use Rattle.lisp_code.specs.Codes.{Code, Constant, Path, fails, pair_of, list_of, operation_of, choice_of, call_of}
+use Rattle.lisp_code.specs.Frames.{Function, whole_of}
 
 abbrev pub constant_code : Option modules.Constant → Code
 constant_code None = fails
@@ -32,7 +25,7 @@ Codes = Expression → Names → Code
 
 -- A symbol is a parameter, else a constant. An inline's parameter is replaced by the code of what it stands for.
 abbrev pub name_code : Module → Codes → List ℕ → Binding (List Side) → Code
-name_code source further name (ToFound path) = Path (ToRest ∷ path)
+name_code source further name (ToFound path) = Path path
 name_code source further name ToNoStep = fails
 name_code source further name (ToExpression e there) = further e there
 name_code source further name ToNothing = constant_code (constant_named name source.constants)
@@ -56,7 +49,7 @@ module _ (source : Module) (further : Codes) where
     expression_code (Choice condition second third) names = choice_of (expression_code condition names) (expression_code second names) (expression_code third names)
     expression_code (Listing operands) names = list_of (operand_codes operands names)
     expression_code (Operation code operands) names = operation_of code (operand_codes operands names)
-    expression_code (FunctionCall name operands) names = call_of (index_of name source.functions) (operand_codes operands names)
+    expression_code (FunctionCall name operands) names = call_of name (operand_codes operands names)
     expression_code (InlineCall name operands) names = inline_code source further operands names (definition_named name source.inlines)
     expression_code (Filled template) names = template_code template names
 
@@ -71,13 +64,10 @@ module _ (source : Module) (further : Codes) where
 
 -- ---- a module
 
--- the code of a function
-abbrev pub definition_code : Module → Codes → Definition → Tree
-definition_code source code f = tree_of (body_code code (body_of source f.params f.body) (function_names f.params))
+abbrev pub function_of : Module → Codes → Definition → Function
+function_of source code f =
+    record { name = f.name; code = body_code code (body_of source f.params f.body) (function_names f.params) }
 
--- `(a (q . BODY) (c (q . FUNCTIONS) 1))`
 abbrev pub whole_code : Module → Codes → Tree
 whole_code source code =
-    let body = tree_of (body_code code (body_of source source.params source.body) (function_names source.params)) in
-    let functions = list_tree (map (definition_code source code) source.functions) in
-    operator_code APPLY (quote_of body ∷ pair_code (quote_of functions) (path_code []) ∷ [])
+    whole_of (body_code code (body_of source source.params source.body) (function_names source.params)) (map (function_of source code) source.functions)

@@ -1,7 +1,6 @@
 -- The code of a module agrees with it, and is no longer than its bound: laws of the definitions, each proved once for
 -- the crates above.
-use Rattle.std.specs.Prelude.{◌≡◌, ◌≤◌, length}
-use Rattle.clvm_spec.specs.Tree.{Pair, nil}
+use Rattle.std.specs.Prelude.{◌≡◌, ◌≤◌, [], ◌∷◌, length}
 use Rattle.clvm_spec.specs.Spelling.{spelling, IsPrefixed, HasSpelling}
 use Rattle.lisp_spec.specs.Modules.{Module}
 use Rattle.lisp_spec.specs.Expressions.{Expression}
@@ -10,7 +9,7 @@ use Rattle.lisp_spec.specs.ModuleLaws.{AreBound}
 use Rattle.lisp_spec.specs.CycleLaws.{HasNoCycle}
 use Rattle.lisp_spec.specs.ExpressionWeights.{module_bound}
 use Rattle.lisp_code.specs.Names.{Names}
-use Rattle.lisp_code.specs.Codes.{Code, Other, tree_of}
+use Rattle.lisp_code.specs.Codes.{Code, operates}
 use Rattle.lisp_code.specs.Code.{Codes, expression_code, whole_code}
 
 -- These are codes of all expressions, with whatever names: each is made of those that it goes on with.
@@ -31,10 +30,10 @@ pub record HasCode (source : Module) : Type 0 where
 abbrev pub ModulesHaveCode : Type 0
 ModulesHaveCode = (source : Module) → AreBound source → HasNoCycle source → HasCode source
 
--- Codes that are like those of a module, but with one pair more around each that an expression goes on with. So the tree of
--- an expression has more nodes than all those together of the codes that it goes on with: a measure of how inlines nest.
+-- Codes that are like those of a module, but with one form more around each that an expression goes on with. So the code of
+-- an expression has more forms than all those together of the codes that it goes on with: a measure of how inlines nest.
 abbrev pub marked : Code → Code
-marked code = Other (Pair nil (tree_of code))
+marked code = operates 0 (code ∷ [])
 
 abbrev pub AreMeasured : Module → Codes → Type 0
 AreMeasured source measured = (e : Expression) (names : Names) → measured e names ≡ expression_code source (λ e names. marked (measured e names)) e names

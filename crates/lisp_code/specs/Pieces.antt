@@ -1,11 +1,9 @@
--- Pieces of code. Code runs on a tree whose first is the list of the functions' codes and whose rest is the argument.
--- Source: this project's own, over the operators of the CLVM reference.
-use Rattle.std.specs.Prelude.{ℕ, zero, suc, List, [], ◌∷◌}
+-- Pieces of code. Source: this project's own, over the operators of the CLVM reference.
+use Rattle.std.specs.Prelude.{ℕ, List, [], ◌∷◌}
 use Rattle.clvm_spec.specs.declared.op_codes.TheConstants.{APPLY, CHOICE, NEW_PAIR, RAISE}
 use Rattle.clvm_spec.specs.Tree.{Tree, Atom}
-use Rattle.lisp_spec.specs.Parameters.{Side, ToFirst, ToRest}
+use Rattle.lisp_spec.specs.Parameters.{Side}
 pub use Rattle.clvm_spec.specs.Currying.{operator_code}
-use Rattle.clvm_spec.specs.Currying.{quote_of}
 use Rattle.lisp_code.specs.Paths.{path_atom}
 
 -- what stands at a path of the tree that the code runs on
@@ -20,11 +18,6 @@ failing = operator_code RAISE []
 abbrev pub pair_code : Tree → Tree → Tree
 pair_code first rest = operator_code NEW_PAIR (first ∷ rest ∷ [])
 
--- `(a (i TEST (q . THEN) (q . ELSE)) 1)`: only one of the two is run.
+-- `(a (i TEST THEN ELSE) 1)`: what is chosen is run.
 abbrev pub if_code : Tree → Tree → Tree → Tree
-if_code test then_part else_part = operator_code APPLY (operator_code CHOICE (test ∷ quote_of then_part ∷ quote_of else_part ∷ []) ∷ path_code [] ∷ [])
-
--- the place of a function's code in the list of them
-abbrev pub list_path : ℕ → List Side
-list_path zero = ToFirst ∷ []
-list_path (suc k) = ToRest ∷ list_path k
+if_code test then_part else_part = operator_code APPLY (operator_code CHOICE (test ∷ then_part ∷ else_part ∷ []) ∷ path_code [] ∷ [])

@@ -1,5 +1,5 @@
 -- The codes of expressions, by what they are.
-use Rattle.std.proofs.Common.{◌≡◌, ℕ, List, ◌∷◌, Option, Some, Ok, refl, sym, ap, ap₂, ◌∙◌}
+use Rattle.std.proofs.Common.{◌≡◌, ℕ, List, ◌∷◌, Some, Ok, refl, sym, ap, ap₂, ◌∙◌}
 use Rattle.clvm_spec.specs.Tree.{Tree}
 use Rattle.lisp_spec.specs.Modules.{Definition, definition_named}
 use Rattle.lisp_spec.specs.Parameters.{Side}
@@ -8,7 +8,7 @@ use Rattle.lisp_spec.specs.Scopes.{body_of}
 use Rattle.lisp_spec.specs.Environments.{Binding, binding_of, inline_environment}
 use Rattle.lisp_code.specs.Names.{Names}
 use Rattle.lisp_code.specs.Codes.{Code, Constant, pair_of, list_of, operation_of, choice_of, call_of}
-use Rattle.lisp_code.specs.Code.{index_of, name_code, body_code, inline_code, operand_codes}
+use Rattle.lisp_code.specs.Code.{name_code, body_code, inline_code, operand_codes}
 use Rattle.lisp_compile.specs.Coding.{Coding, further, codes_of, template_of}
 
 three : (a b c a' b' c' : Code) → a ≡ a' → b ≡ b' → c ≡ c' → choice_of a b c ≡ choice_of a' b' c'
@@ -35,8 +35,8 @@ module _ (it : Coding) (names : Names) where
   pub code_operation : (code : ℕ) (operands : Operands) → it.code (Operation code operands) names ≡ operation_of code (codes_of it operands names)
   code_operation code operands = it.step (Operation code operands) names ∙ ap (operation_of code) (codes_are operands)
 
-  pub code_function : (name : List ℕ) (operands : Operands) (k : Option ℕ) → index_of name it.source.functions ≡ k → it.code (FunctionCall name operands) names ≡ call_of k (codes_of it operands names)
-  code_function name operands k e = it.step (FunctionCall name operands) names ∙ ap (call_of (index_of name it.source.functions)) (codes_are operands) ∙ ap (λ k. call_of k (codes_of it operands names)) e
+  pub code_function : (name : List ℕ) (operands : Operands) → it.code (FunctionCall name operands) names ≡ call_of name (codes_of it operands names)
+  code_function name operands = it.step (FunctionCall name operands) names ∙ ap (call_of name) (codes_are operands)
 
   -- A call of an inline goes on with the inline's body.
   pub code_inline : (name : List ℕ) (operands : Operands) (f : Definition) (e : Expression) → definition_named name it.source.inlines ≡ Some f → body_of it.source f.params f.body ≡ Ok e →

@@ -1,12 +1,11 @@
 -- The numbers and the atoms of paths, eight steps by eight.
-use Rattle.std.proofs.Common.{◌≡◌, ℕ, zero, suc, ◌+◌, ◌*◌, ◌/◌, ◌%◌, ◌^◌, ◌<◌, ◌≤◌, List, [], ◌∷◌, ◌++◌, length, drop, take, reverse, refl, sym, ap, ap₂, ◌∙◌, subst, arith}
+use Rattle.std.proofs.Common.{◌≡◌, ℕ, zero, suc, ◌+◌, ◌*◌, ◌/◌, ◌%◌, ◌^◌, ◌<◌, ◌≤◌, List, [], ◌∷◌, ◌++◌, length, drop, take, reverse, sym, ap, ap₂, ◌∙◌, subst, arith}
 use Rattle.std.proofs.lemmas.List.{map-append, length-map, length-drop, reverse-append, take-append-drop, length-take-le}
 use Rattle.std.proofs.lemmas.Int.Digits.{digits_of_step}
 use Rattle.std.specs.Int.Digits.{digits_of}
 use Rattle.lisp_spec.specs.Parameters as parameters
 use Rattle.lisp_spec.specs.Parameters.{ToFirst, ToRest}
 use Rattle.lisp_code.specs.Paths.{path_number, path_atom}
-use Rattle.lisp_code.specs.Pieces.{list_path}
 use Rattle.lisp_compile.specs.declared.parameters.Side.{Side}
 use Rattle.lisp_compile.specs.Sides.{side_of, path_in}
 
@@ -65,22 +64,6 @@ atom_short n some below =
     let high : n / 256 ≡ 0 = omega arith in
     let last : n % 256 ≡ n = omega arith in
     digits_of_step 256 n (omega arith) some ∙ ap₂ (λ x y. digits_of 256 x ++ y ∷ []) high last
-
--- so many steps to the rest
-abbrev pub rests : ℕ → List parameters.Side
-rests zero = []
-rests (suc k) = ToRest ∷ rests k
-
-pub rests-push : (k : ℕ) → rests k ++ ToRest ∷ [] ≡ rests (suc k)
-rests-push zero = refl
-rests-push (suc k) = ap (λ path. ToRest ∷ path) (rests-push k)
-
-pub rests-end : (k : ℕ) → rests k ++ ToFirst ∷ [] ≡ list_path k
-rests-end zero = refl
-rests-end (suc k) = ap (λ path. ToRest ∷ path) (rests-end k)
-
-pub push_side : (sides : List Side) (side : Side) → path_in (sides ++ side ∷ []) ≡ path_in sides ++ side_of side ∷ []
-push_side sides side = map-append side_of sides (side ∷ [])
 
 pub reverse-push : (xs : List ℕ) (x : ℕ) → reverse (xs ++ x ∷ []) ≡ x ∷ reverse xs
 reverse-push xs x = reverse-append xs (x ∷ [])

@@ -4,7 +4,7 @@ ghost use Rattle.std.specs.Prelude.{◌≡◌, ℕ, ◌+◌, ◌<◌, ◌≤◌,
 ghost use Rattle.clvm_tree.specs.Nodes.{Grows};
 ghost use Rattle.lisp_spec.specs.Parameters.{ToFirst, ToRest};
 ghost use Rattle.lisp_code.specs.Paths.{path_number, path_atom};
-ghost use Rattle.lisp_code.specs.Pieces.{path_code, list_path};
+ghost use Rattle.lisp_code.specs.Pieces.{path_code};
 ghost use Rattle.lisp_compile.specs.Pieces.{Makes};
 ghost use Rattle.lisp_compile.specs.Sides.{path_in};
 
@@ -72,17 +72,18 @@ pub(crate) fn parameter(
     path(alloc, trees, whole.as_slice())
 }
 
-/// The atom of the path to a function's code, in the first of the tree that code runs on.
-pub(crate) fn function(alloc: Global, trees: &mut Trees, index: usize) -> Result<Node, OutOfMemory>
+/// The atom of the path to a function's code, which stands at this place in the first of the tree that code runs on.
+pub(crate) fn function(
+    alloc: Global,
+    trees: &mut Trees,
+    place: &[Side],
+) -> Result<Node, OutOfMemory>
     requires { length trees.old + 1 < 2 ^ 31 }
     ensures grows { Grows trees.old trees.new }
-    ensures ok { IfOk result (λ node. Makes trees.old trees.new node.0 (path_code (ToFirst ∷ list_path index)) 1) }
+    ensures ok { IfOk result (λ node. Makes trees.old trees.new node.0 (path_code (ToFirst ∷ path_in place.now)) 1) }
 {
     let mut whole = Vec::new(alloc);
     whole.push(Side::First)?;
-    'functions: for _ in 0..index {
-        whole.push(Side::Rest)?;
-    }
-    whole.push(Side::First)?;
+    whole.extend_from_slice(place)?;
     path(alloc, trees, whole.as_slice())
 }

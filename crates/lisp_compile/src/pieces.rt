@@ -136,7 +136,7 @@ pub(crate) fn choice(
     requires then_known { IsKnown trees.old then_part.0 }
     requires else_known { IsKnown trees.old else_part.0 }
     ensures grows { Grows trees.old trees.new }
-    ensures ok { IfOk result (λ node. Makes trees.old trees.new node.0 (if_code (tree_at trees.old test.0) (tree_at trees.old then_part.0) (tree_at trees.old else_part.0)) 11) }
+    ensures ok { IfOk result (λ node. Makes trees.old trees.new node.0 (if_code (tree_at trees.old test.0) (quote_of (tree_at trees.old then_part.0)) (quote_of (tree_at trees.old else_part.0))) 11) }
 {
     let then_part = quote(alloc, trees, then_part)?;
     let else_part = quote(alloc, trees, else_part)?;

@@ -12,8 +12,8 @@ fn makes_paths(rt: HostRuntime) -> Result<(), Fail> {
     let mut trees = Trees::new(alloc);
     let parameter = path::parameter(alloc, &mut trees, &[Side::First])?;
     assert!(rt; trees.bytes_of(parameter) == Some(b"\x05".as_slice()));
-    let function = path::function(alloc, &mut trees, 1)?;
-    assert!(rt; trees.bytes_of(function) == Some(b"\x0a".as_slice()));
+    let function = path::function(alloc, &mut trees, &[Side::Rest])?;
+    assert!(rt; trees.bytes_of(function) == Some(b"\x06".as_slice()));
     Ok(())
 }
 
