@@ -1,5 +1,5 @@
 -- How long the code of a module is.
-use Rattle.std.proofs.Common.{◌≡◌, ◌==◌, ℕ, zero, suc, ◌+◌, ◌*◌, ◌/◌, ◌^◌, ◌<◌, ◌≤◌, Bool, true, false, cond, ltb, List, [], ◌∷◌, ◌++◌, length, Option, Some, None, option_map, bytes_eq, refl, sym, ap, subst, arith}
+use Rattle.std.proofs.Common.{◌≡◌, ◌==◌, ℕ, zero, suc, ◌+◌, ◌*◌, ◌/◌, ◌^◌, ◌<◌, ◌≤◌, ltb, List, [], ◌∷◌, ◌++◌, length, Option, Some, None, option_map, refl, sym, subst, arith}
 use Rattle.std.proofs.lemmas.List.{length-append}
 use Rattle.std.proofs.lemmas.Bool.{cond_both}
 use Rattle.std.proofs.lemmas.Int.Digits.{length-digits_of-le, number_digits_of, number_lt, all_below_base_digits_of}
@@ -13,12 +13,13 @@ use Rattle.clvm_spec.specs.Currying.{quote_of}
 use Rattle.lisp_code.specs.Paths.{path_number, path_atom}
 use Rattle.lisp_code.specs.Pieces.{operator_code, path_code, failing, pair_code}
 use Rattle.lisp_code.specs.Codes.{Code, Constant, Path, Other, Chooses, parts_of, operates, pair_of, list_of, step_of, operation_of, choice_of, call_of}
-use Rattle.lisp_code.specs.Frames.{Function, Places, Here, Fork, with_place, places_of, one_side, path_in, Frame, Bare, Wrapped, path_from, function_path, constant_tree, call_code, tree_of, piece_tree, trees_of, table, frame_of}
+use Rattle.lisp_code.specs.Frames.{Function, Places, Here, Fork, with_place, places_of, path_in, Frame, Bare, Wrapped, path_from, function_path, constant_tree, call_code, tree_of, piece_tree, trees_of, table, frame_of}
 use Rattle.lisp_code.proofs.Depths.{itself, looping}
 use Rattle.lisp_code.proofs.PathLaws.{bytes_of_bits}
 use Rattle.lisp_code.proofs.Corresponding.{path_longer}
 use Rattle.lisp_code.proofs.Reaching.{total}
 use Rattle.lisp_code.proofs.PlainForms.{if_of}
+use Rattle.lisp_code.proofs.Balance.{count_of, path_short}
 
 abbrev pub size : Tree → ℕ
 size tree = length (spelling tree)
@@ -229,37 +230,6 @@ size_table frame f [] = omega arith
 size_table frame f (g ∷ fs) = let w = size_with frame f (places_of g fs) in let h = size_table frame g fs in omega arith
 
 -- A path is no longer than there are functions.
-abbrev count : Places → ℕ
-count (Here f) = 1
-count (Fork first rest) = count first + count rest
-
-count_with : (f : Function) (places : Places) → count (with_place f places) ≡ suc (count places)
-count_with f (Here g) = refl
-count_with f (Fork first rest) = let h = count_with f rest in omega arith
-
-count_of : (f : Function) (fs : List Function) → count (places_of f fs) ≡ length (f ∷ fs)
-count_of f [] = refl
-count_of f (g ∷ fs) = let w = count_with f (places_of g fs) in let h = count_of g fs in omega arith
-
-count_above : (places : Places) → 1 ≤ count places
-count_above (Here f) = omega arith
-count_above (Fork first rest) = let h = count_above first in omega arith
-
-path_one : (b : Bool) (path : List Side) → cond b (Some []) None ≡ Some path → length path ≡ 0
-path_one true path e = let same : [] ≡ path = cc in ap length (sym same)
-path_one false path e = absurd cc
-
-path_side : (first rest : Option (List Side)) (m n : ℕ) → 1 ≤ m → 1 ≤ n → ((path : List Side) → first ≡ Some path → length path < m) → ((path : List Side) → rest ≡ Some path → length path < n) →
-    (path : List Side) → one_side first rest ≡ Some path → length path < m + n
-path_side (Some found) rest m n a b p q path e = let same : ToFirst ∷ found ≡ path = cc in let h = p found refl in subst (λ path. length path < m + n) same (omega arith)
-path_side None (Some found) m n a b p q path e = let same : ToRest ∷ found ≡ path = cc in let h = q found refl in subst (λ path. length path < m + n) same (omega arith)
-path_side None None m n a b p q path e = absurd cc
-
-path_short : (name : List ℕ) (places : Places) (path : List Side) → path_in name places ≡ Some path → length path < count places
-path_short name (Here f) path e = let h = path_one (bytes_eq f.name name) path e in omega arith
-path_short name (Fork first rest) path e =
-    path_side (path_in name first) (path_in name rest) (count first) (count rest) (count_above first) (count_above rest) (path_short name first) (path_short name rest) path e
-
 from_first : (found : Option (List Side)) (most : ℕ) → ((path : List Side) → found ≡ Some path → length path < most) → (path : List Side) → option_map (λ path. ToFirst ∷ path) found ≡ Some path → length path ≤ most
 from_first None most h path e = absurd cc
 from_first (Some found) most h path e = let same : ToFirst ∷ found ≡ path = cc in let k = h found refl in subst (λ path. length path ≤ most) same (omega arith)

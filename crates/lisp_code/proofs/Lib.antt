@@ -18,6 +18,7 @@ pub mod Forward
 pub mod Backward
 pub mod Reaching
 pub mod Placing
+pub mod Balance
 pub mod Agreed
 pub mod Limits
 pub mod Lengths

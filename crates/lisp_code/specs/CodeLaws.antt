@@ -1,6 +1,6 @@
 -- The code of a module agrees with it, and is no longer than its bound: laws of the definitions, each proved once for
 -- the crates above.
-use Rattle.std.specs.Prelude.{◌≡◌, ◌≤◌, [], ◌∷◌, length}
+use Rattle.std.specs.Prelude.{◌≡◌, ℕ, ◌*◌, ◌^◌, ◌<◌, ◌≤◌, List, [], ◌∷◌, Some, length}
 use Rattle.clvm_spec.specs.Spelling.{spelling, IsPrefixed, HasSpelling}
 use Rattle.lisp_spec.specs.Modules.{Module}
 use Rattle.lisp_spec.specs.Expressions.{Expression}
@@ -8,8 +8,10 @@ use Rattle.lisp_spec.specs.Agreement.{Agrees, FailsAlike}
 use Rattle.lisp_spec.specs.ModuleLaws.{AreBound}
 use Rattle.lisp_spec.specs.CycleLaws.{HasNoCycle}
 use Rattle.lisp_spec.specs.ExpressionWeights.{module_bound}
+use Rattle.lisp_spec.specs.Parameters.{Side}
 use Rattle.lisp_code.specs.Names.{Names}
 use Rattle.lisp_code.specs.Codes.{Code, operates}
+use Rattle.lisp_code.specs.Frames.{Function, places_of, path_in}
 use Rattle.lisp_code.specs.Code.{Codes, expression_code, whole_code}
 
 -- These are codes of all expressions, with whatever names: each is made of those that it goes on with.
@@ -41,3 +43,7 @@ AreMeasured source measured = (e : Expression) (names : Names) → measured e na
 -- Where no inline reaches itself, that work ends.
 abbrev pub WorkEnds : Type 0
 WorkEnds = (source : Module) → HasNoCycle source → (measured : Codes) × AreMeasured source measured
+
+-- A path to a function has about as many steps as the logarithm of the number of functions that are there.
+abbrev pub PathsAreShort : Type 0
+PathsAreShort = (f : Function) (more : List Function) (name : List ℕ) (path : List Side) → path_in name (places_of f more) ≡ Some path → 2 ^ length path < 2 * length (f ∷ more)

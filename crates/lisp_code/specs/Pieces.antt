@@ -1,5 +1,5 @@
 -- Pieces of code. Source: this project's own, over the operators of the CLVM reference.
-use Rattle.std.specs.Prelude.{ℕ, List, [], ◌∷◌}
+use Rattle.std.specs.Prelude.{List, [], ◌∷◌}
 use Rattle.clvm_spec.specs.declared.op_codes.TheConstants.{APPLY, CHOICE, NEW_PAIR, RAISE}
 use Rattle.clvm_spec.specs.Tree.{Tree, Atom}
 use Rattle.lisp_spec.specs.Parameters.{Side}

@@ -1,6 +1,6 @@
 //! Laws of the code of a module. Each is the contract of a function that does nothing.
 
-ghost use Rattle.lisp_code.specs.CodeLaws.{ModulesHaveCode, WorkEnds};
+ghost use Rattle.lisp_code.specs.CodeLaws.{ModulesHaveCode, PathsAreShort, WorkEnds};
 
 /// Where each body is an expression and no inline reaches itself, a module has code that agrees with it, fails where it
 /// fails, and is no longer than its bound, made of the codes of its expressions.
@@ -11,4 +11,9 @@ pub fn modules_have_code()
 /// Where no inline reaches itself, the work to make it ends.
 pub fn work_ends()
     ensures { WorkEnds }
+{}
+
+/// Functions stand in a balanced tree.
+pub fn paths_are_short()
+    ensures { PathsAreShort }
 {}
