@@ -7,6 +7,7 @@ use Rattle.lisp_spec.proofs.CycleProofs.{is_same, same_is, cases, or_left, or_ri
 use Rattle.lisp_code.specs.Codes.{functions_called}
 use Rattle.lisp_code.specs.Frames.{Function, and_on, reached}
 use Rattle.lisp_code.specs.Code.{Codes, function_of}
+use Rattle.lisp_code.specs.CodeLaws.{AreCalled, OnlyCalledAreThere}
 use Rattle.lisp_code.proofs.Settling.{among_front, among_behind}
 
 abbrev pub named : List ℕ → List Function → Option Function
@@ -191,6 +192,19 @@ reaches zero names (f ∷ left) h = absurd (omega arith)
 reaches (suc more) names left h =
     reached_by names left (rest_of more names left) (λ f is. reaches more (functions_called f.code ++ names) (without f.name left) (omega (arith, shorter f left is)))
     (find (λ f. is_among f.name names) left) refl
+
+called_by : (names : List (List ℕ)) (left : List Function) (go : Function → List Function) → ((f : Function) → AreCalled (functions_called f.code ++ names) (go f)) →
+    (o : Option Function) → find (λ f. is_among f.name names) left ≡ o → AreCalled names (and_on o go)
+called_by names left go goes None e = tt
+called_by names left go goes (Some f) e = (found_passes (λ name. is_among name names) left f e, goes f)
+
+are_called : (more : ℕ) (names : List (List ℕ)) (left : List Function) → AreCalled names (reached more names left)
+are_called zero names left = tt
+are_called (suc more) names left =
+    called_by names left (rest_of more names left) (λ f. are_called more (functions_called f.code ++ names) (without f.name left)) (find (λ f. is_among f.name names) left) refl
+
+pub only_called_are_there : OnlyCalledAreThere
+only_called_are_there names functions = are_called (length functions) names functions
 
 named_has : (name : List ℕ) (fs : List Function) (g : Function) → named name fs ≡ Some g → has_name name fs ≡ true
 named_has name [] g e = absurd cc

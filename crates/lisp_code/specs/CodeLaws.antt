@@ -1,6 +1,6 @@
 -- The code of a module agrees with it, and is no longer than its bound: laws of the definitions, each proved once for
 -- the crates above.
-use Rattle.std.specs.Prelude.{◌≡◌, ℕ, ◌*◌, ◌^◌, ◌<◌, ◌≤◌, List, [], ◌∷◌, Some, length}
+use Rattle.std.specs.Prelude.{◌≡◌, ℕ, ◌*◌, ◌^◌, ◌<◌, ◌≤◌, true, List, [], ◌∷◌, ◌++◌, Some, length}
 use Rattle.clvm_spec.specs.Spelling.{spelling, IsPrefixed, HasSpelling}
 use Rattle.lisp_spec.specs.Modules.{Module}
 use Rattle.lisp_spec.specs.Expressions.{Expression}
@@ -8,10 +8,11 @@ use Rattle.lisp_spec.specs.Agreement.{Agrees, FailsAlike}
 use Rattle.lisp_spec.specs.ModuleLaws.{AreBound}
 use Rattle.lisp_spec.specs.CycleLaws.{HasNoCycle}
 use Rattle.lisp_spec.specs.ExpressionWeights.{module_bound}
+use Rattle.lisp_spec.specs.ModuleFaults.{is_among}
 use Rattle.lisp_spec.specs.Parameters.{Side}
 use Rattle.lisp_code.specs.Names.{Names}
-use Rattle.lisp_code.specs.Codes.{Code, operates}
-use Rattle.lisp_code.specs.Frames.{Function, places_of, path_in}
+use Rattle.lisp_code.specs.Codes.{Code, operates, functions_called}
+use Rattle.lisp_code.specs.Frames.{Function, places_of, path_in, reached}
 use Rattle.lisp_code.specs.Code.{Codes, expression_code, whole_code}
 
 -- These are codes of all expressions, with whatever names: each is made of those that it goes on with.
@@ -47,3 +48,12 @@ WorkEnds = (source : Module) → HasNoCycle source → (measured : Codes) × Are
 -- A path to a function has about as many steps as the logarithm of the number of functions that are there.
 abbrev pub PathsAreShort : Type 0
 PathsAreShort = (f : Function) (more : List Function) (name : List ℕ) (path : List Side) → path_in name (places_of f more) ≡ Some path → 2 ^ length path < 2 * length (f ∷ more)
+
+-- Each of these functions has one of these names, or is called by one before it.
+abbrev pub AreCalled : (names : List (List ℕ)) → List Function → Type 0
+AreCalled names [] = Unit {0}
+AreCalled names (f ∷ more) = (is_among f.name names ≡ true) × AreCalled (functions_called f.code ++ names) more
+
+-- No function is there that isn't reached.
+abbrev pub OnlyCalledAreThere : Type 0
+OnlyCalledAreThere = (names : List (List ℕ)) (functions : List Function) → AreCalled names (reached (length functions) names functions)
