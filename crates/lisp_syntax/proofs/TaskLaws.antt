@@ -1,5 +1,5 @@
 -- Tasks are put on and taken off, and what is written of all stays the same.
-use Rattle.std.proofs.Common.{◌≡◌, ℕ, zero, suc, ◌+◌, ◌<◌, List, [], ◌∷◌, ◌++◌, Ok, Err, refl, sym, ap, ◌∙◌, subst, arith, append_assoc, append-nil}
+use Rattle.std.proofs.Common.{◌≡◌, ℕ, zero, suc, ◌+◌, ◌<◌, List, [], ◌∷◌, ◌++◌, length, Ok, Err, refl, sym, ap, ◌∙◌, subst, arith, append_assoc, append-nil}
 use Rattle.std.specs.Prelude.{Result}
 use Rattle.std.specs.Result.{IsErrAnd}
 use Rattle.lisp_spec.specs.ModuleFaults.{Fault, fault, Judged, ◌>>=◌}
@@ -15,10 +15,11 @@ use Rattle.lisp_syntax.specs.declared.shape.Shape.{Shape}
 use Rattle.lisp_syntax.specs.declared.shape.Shape.TheVariants.{Leaf, One, Two, Three}
 use Rattle.lisp_syntax.specs.declared.reader.Task.{Task}
 use Rattle.lisp_syntax.specs.declared.reader.Task.TheVariants.{Reads, Puts}
-use Rattle.lisp_syntax.specs.Marks.{Mark, written, marks_of, marked}
+use Rattle.lisp_syntax.specs.Marks.{Mark, written, marks_of, marked, expression_in}
 use Rattle.lisp_syntax.specs.Faults.{IsFormFault}
 use Rattle.lisp_syntax.specs.Shapes.{◌before◌, lone, part_written, shape_written, part_left, shape_left}
-use Rattle.lisp_syntax.specs.Tasks.{task_written, tasks_written, all_written, task_left, tasks_left, IsSeenAs, Answers}
+use Rattle.lisp_syntax.proofs.MarkLaws.{reads_back}
+use Rattle.lisp_syntax.specs.Tasks.{task_written, tasks_written, all_written, task_left, tasks_left, meant, IsExpression, Answers}
 
 before_assoc : (i j k : Judged (List Mark)) → ((i before j) before k) ≡ (i before j before k)
 before_assoc (Ok a) (Ok b) (Ok c) = ap Ok (append_assoc a b c)
@@ -99,12 +100,19 @@ module _ (scope : Scope) where
   fault_is nodes tasks more a (Unbound place) j t e w = broken nodes tasks more a (fault kind.Unbound place) j t e w
   fault_is nodes tasks more a OutOfMemory j t e w = tt
 
-  seen_as : (marks : List Mark) (nodes : List Node) (j : Judged spec.Expression) → marks_of nodes ≡ marks → Ok marks ≡ marked j → IsSeenAs j nodes
-  seen_as marks nodes (Ok e) m w = record { expression = e; found = refl; nodes_are = let same : marks ≡ written e = cc in m ∙ same }
-  seen_as marks nodes (Err first) m w = absurd cc
+  is_expression : (e : Expression) (j : Judged spec.Expression) → Ok (marks_of e.nodes.items) ≡ marked j → IsExpression j e
+  is_expression e (Ok f) w =
+      let same : marks_of e.nodes.items ≡ written f = cc in
+      let meant_is : f ≡ meant e = sym (reads_back f) ∙ ap expression_in (sym same) in
+      record { found = ap Ok meant_is; nodes_are = same ∙ ap written meant_is }
+  is_expression e (Err first) w = absurd cc
 
-  pub ends : (nodes : List Node) (tasks : List Task) (j : Judged spec.Expression) → tasks ≡ [] → all_written scope nodes tasks ≡ marked j → IsSeenAs j nodes
-  ends nodes tasks j t w = seen_as (marks_of nodes) nodes j refl (sym (before_nothing (Ok (marks_of nodes))) ∙ ap (all_written scope nodes) (sym t) ∙ w)
+  none_left : (tasks : List Task) → length tasks ≡ 0 → tasks ≡ []
+  none_left [] n = refl
+  none_left (t ∷ tasks) n = absurd (omega (arith, n))
+
+  pub ends : (e : Expression) (tasks : List Task) (j : Judged spec.Expression) → length tasks ≡ 0 → all_written scope e.nodes.items tasks ≡ marked j → IsExpression j e
+  ends e tasks j t w = is_expression e j (sym (before_nothing (Ok (marks_of e.nodes.items))) ∙ ap (all_written scope e.nodes.items) (sym (none_left tasks t)) ∙ w)
 
 pub step_less : (tasks more next : List Task) (task : Task) (shape : Shape) → tasks ≡ more ++ task ∷ [] → tasks_left next ≡ tasks_left more + shape_left shape → shape_left shape < task_left task → tasks_left next < tasks_left tasks
 step_less tasks more next task shape t n l = omega (arith, l, n, ap tasks_left t, left_push more task)

@@ -1,6 +1,6 @@
 -- Expressions written out, each part before what is made of it. This project's own.
-use Rattle.std.specs.Prelude.{◌≡◌, ℕ, List, [], ◌∷◌, ◌++◌, map, Ok}
-use Rattle.clvm_spec.specs.Tree.{Tree}
+use Rattle.std.specs.Prelude.{ℕ, List, [], ◌∷◌, ◌++◌, map, Ok}
+use Rattle.clvm_spec.specs.Tree.{Tree, nil}
 use Rattle.lisp_read.specs.Views.{form_of}
 use Rattle.lisp_spec.specs.Quoted.{quoted_form}
 use Rattle.lisp_spec.specs.ModuleFaults.{Judged, ◌>>=◌}
@@ -75,3 +75,40 @@ template_marked judged = judged >>= λ template. Ok (written_template template)
 
 abbrev pub unquoted_marked : Judged spec.Expression → Judged (List Mark)
 unquoted_marked judged = template_marked (judged >>= λ e. Ok (spec.Unquoted e))
+
+-- ---- read back
+
+-- what is made of the marks so far
+pub data Piece : Type 0 where
+  Whole : spec.Expression → Piece
+  Row : spec.Operands → Piece
+  Part : spec.Template → Piece
+
+-- A mark takes its parts off the stack and puts on what is made of them.
+abbrev pub put : Mark → List Piece → List Piece
+put (Literal tree) stack = Whole (spec.Literal tree) ∷ stack
+put (Name name) stack = Whole (spec.Name name) ∷ stack
+put Choice (Whole third ∷ Whole second ∷ Whole condition ∷ stack) = Whole (spec.Choice condition second third) ∷ stack
+put Listing (Row operands ∷ stack) = Whole (spec.Listing operands) ∷ stack
+put (Operation code) (Row operands ∷ stack) = Whole (spec.Operation code operands) ∷ stack
+put (FunctionCall name) (Row operands ∷ stack) = Whole (spec.FunctionCall name operands) ∷ stack
+put (InlineCall name) (Row operands ∷ stack) = Whole (spec.InlineCall name operands) ∷ stack
+put Filled (Part template ∷ stack) = Whole (spec.Filled template) ∷ stack
+put NoMore stack = Row spec.NoMore ∷ stack
+put Operand (Row more ∷ Whole first ∷ stack) = Row (spec.Operand first more) ∷ stack
+put (Plain tree) stack = Part (spec.Plain tree) ∷ stack
+put Both (Part rest ∷ Part first ∷ stack) = Part (spec.Both first rest) ∷ stack
+put Unquoted (Whole e ∷ stack) = Part (spec.Unquoted e) ∷ stack
+put mark stack = stack
+
+abbrev pub put_all : List Piece → List Mark → List Piece
+put_all stack [] = stack
+put_all stack (mark ∷ marks) = put_all (put mark stack) marks
+
+abbrev pub last_whole : List Piece → spec.Expression
+last_whole (Whole e ∷ stack) = e
+last_whole stack = spec.Literal nil
+
+-- the expression that is written so
+abbrev pub expression_in : List Mark → spec.Expression
+expression_in marks = last_whole (put_all [] marks)

@@ -9,7 +9,7 @@ use Rattle.lisp_syntax.specs.declared.shape.Shape.{Shape}
 use Rattle.lisp_syntax.specs.declared.reader.Task.{Task}
 use Rattle.lisp_syntax.specs.declared.reader.Task.TheVariants.{Reads, Puts}
 use Rattle.lisp_syntax.specs.declared.node.Expression.{Expression}
-use Rattle.lisp_syntax.specs.Marks.{Mark, written, marks_of}
+use Rattle.lisp_syntax.specs.Marks.{Mark, written, marks_of, expression_in}
 use Rattle.lisp_syntax.specs.Faults.{IsFormFault}
 use Rattle.lisp_syntax.specs.Shapes.{◌before◌, lone, part_written, shape_written, part_left, shape_left}
 
@@ -39,12 +39,15 @@ tasks_left (task ∷ later) = task_left task + tasks_left later
 
 -- ---- an expression of the program
 
--- Its nodes are the expression, written out.
-pub record IsSeenAs (judged : Judged spec.Expression) (nodes : List Node) : Type 0 where
-  pub expression : spec.Expression
-  pub found : judged ≡ Ok expression
-  pub nodes_are : marks_of nodes ≡ written expression
+-- the expression that it is
+abbrev pub meant : Expression → spec.Expression
+meant e = expression_in (marks_of e.nodes.items)
+
+-- It is what is judged, and its nodes are that, written out.
+pub record IsExpression (judged : Judged spec.Expression) (e : Expression) : Type 0 where
+  pub found : judged ≡ Ok (meant e)
+  pub nodes_are : marks_of e.nodes.items ≡ written (meant e)
 
 abbrev pub Answers : Judged spec.Expression → Result Expression FormFault → Type 0
-Answers judged (Ok e) = IsSeenAs judged e.nodes.items
+Answers judged (Ok e) = IsExpression judged e
 Answers judged (Err f) = IsFormFault judged f

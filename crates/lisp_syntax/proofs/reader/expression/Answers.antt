@@ -1,11 +1,11 @@
-use Rattle.std.proofs.Common.{sym, ap, ◌∙◌, ◌++◌, ◌∷◌, [], arith}
+use Rattle.std.proofs.Common.{◌≡◌, length, sym, ap, ◌∙◌, ◌++◌, ◌∷◌, [], arith}
 use Rattle.lisp_read.specs.Views.{form_of}
 use Rattle.lisp_spec.specs.Expressions.{expression_of}
 use Rattle.lisp_syntax.specs.Scopes.{scope_of}
 use Rattle.lisp_syntax.specs.Marks.{marked}
 use Rattle.lisp_syntax.specs.Shapes.{shape_written, shape_left}
 use Rattle.lisp_syntax.specs.Tasks.{task_written, task_left}
-use Rattle.lisp_syntax.proofs.TaskLaws.{step_less, goes_on, fault_is, answers_fault}
+use Rattle.lisp_syntax.proofs.TaskLaws.{step_less, goes_on, ends, fault_is, answers_fault}
 use Rattle.lisp_syntax.proofs.reader.expression.Goals as goal
 use Rattle.lisp_syntax.proofs.reader.expression.Goals.{in-Reads+in_ok-shape-in-Reads, in-Puts}
 
@@ -40,3 +40,9 @@ tasks-preserved c =
           goes_on scope c.tasks.nodes.items c.take_up.new.nodes.items c.tasks.tasks.items c.pop.new.self.items c.take_up.new.tasks.items c.in-Some.task c.match-task.shape whole c.in-Some.ensures.items
           (ap (shape_written scope) w.shape-is ∙ ap (task_written scope) (sym w.in-Puts.is)) (c.in_ok-take_up.ensures.same scope) c.tasks.invariant
     ]
+
+pub returns : goal.returns
+returns c =
+    let none : length c.tasks.tasks.items ≡ 0 = omega (arith, c.in_default.ensures.cases.0, c.tasks.tasks.ok.0) in
+    let scope = scope_of c.args.scope.now in
+    ends scope (record { nodes = c.tasks.nodes }) c.tasks.tasks.items (expression_of (form_of c.args.form.now) scope) none c.tasks.invariant
