@@ -10,3 +10,4 @@ pub mod ShapeLaws
 pub mod LevelLaws
 pub mod StepLaws
 pub mod WholeLaws
+pub mod AskingLaws

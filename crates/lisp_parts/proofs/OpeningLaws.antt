@@ -1,7 +1,6 @@
 -- What an include learns of a library's texts.
-use Rattle.std.proofs.Common.{◌≡◌, ℕ, suc, ◌+◌, ◌-◌, ◌*◌, ◌^◌, ◌<◌, ◌≤◌, Bool, true, false, ◌||◌, cond, List, [], ◌∷◌, ◌++◌, length, Option, Some, None, Result, Ok, Err, refl, sym, ap, ◌∙◌, subst, arith, length-append}
+use Rattle.std.proofs.Common.{◌≡◌, ℕ, suc, ◌+◌, ◌^◌, ◌<◌, ◌≤◌, Bool, true, false, ◌||◌, cond, List, [], ◌∷◌, ◌++◌, length, Option, Some, None, Result, Ok, Err, refl, sym, ap, ◌∙◌, subst, arith, length-append}
 use Rattle.std.specs.Prelude.{bytes_eq, nat_lt}
-use Rattle.std.specs.List.{list_any}
 use Rattle.std.specs.Option.{option_or}
 use Rattle.std.proofs.lemmas.Bool.{lt-ltb}
 use Rattle.std.proofs.lemmas.Bool.Decides.{nat_tests}
@@ -10,14 +9,14 @@ use Rattle.std.proofs.lemmas.Slice.Eq.{bytes_eq-Decides}
 use Rattle.lisp_spec.specs.Forms.{Form, Place}
 use Rattle.lisp_spec.specs.BuiltIns.{built_in}
 use Rattle.lisp_spec.specs.ModuleFaults.{Judged, ◌>>=◌, is_among}
-use Rattle.lisp_spec.specs.ModuleFaults as kind
 use Rattle.lisp_spec.specs.Definitions.{Written}
 use Rattle.lisp_spec.specs.Inclusion.{Walk, most_texts, if_short, Texts, text_named, next_text, entered}
 use Rattle.ports_io.specs.Outside.{IsTextOf}
 use Rattle.lisp_parts.specs.declared.fault.PartsFault.{PartsFault}
-use Rattle.lisp_parts.specs.declared.fault.PartsFault.TheVariants.{IncludeMissing, OutOfMemory}
+use Rattle.lisp_parts.specs.declared.fault.PartsFault.TheVariants.{IncludeMissing}
 use Rattle.lisp_parts.specs.Faults.{IsFaultOf}
 use Rattle.lisp_parts.specs.Steps.{Finds, forms_in, forms_named, AreTold, AgreeOn, Learns, Step, on, into, opened, StepsTo, texts_left, inner_left}
+use Rattle.lisp_parts.specs.Asking.{with_answer}
 use Rattle.lisp_parts.proofs.WalkLaws.{first_fault}
 
 abbrev pub walk_with : List (List ℕ) → List Written → Walk
@@ -43,20 +42,17 @@ among_last name names =
 
 -- ---- one more answer
 
-abbrev pub update : Texts → List ℕ → Option (List ℕ) → Texts
-update known name answer asked = cond (bytes_eq asked name) answer (known asked)
-
-answered : (known : Texts) (name : List ℕ) (answer : Option (List ℕ)) → update known name answer name ≡ answer
+pub answered : (known : Texts) (name : List ℕ) (answer : Option (List ℕ)) → with_answer known name answer name ≡ answer
 answered known name answer = ap (λ b. cond b answer (known name)) ((bytes_eq-Decides name name).1 refl)
 
-others_stay : (known : Texts) (name : List ℕ) (answer : Option (List ℕ)) (names : List (List ℕ)) → is_among name names ≡ false → AgreeOn names (update known name answer) known
+pub others_stay : (known : Texts) (name : List ℕ) (answer : Option (List ℕ)) (names : List (List ℕ)) → is_among name names ≡ false → AgreeOn names (with_answer known name answer) known
 others_stay known name answer names new asked among = by (bytes_eq asked name) refl
   where
     by : (b : Bool) → bytes_eq asked name ≡ b → cond b answer (known asked) ≡ known asked
     by true e = let same : asked ≡ name = (bytes_eq-Decides asked name).0 e in let both : is_among asked names ≡ false = ap (λ n. is_among n names) same ∙ new in absurd cc
     by false e = refl
 
-still_told : (library : Option Texts) (known : Texts) (name : List ℕ) (answer : Option (List ℕ)) → IsTextOf name library answer → AreTold library known → AreTold library (update known name answer)
+still_told : (library : Option Texts) (known : Texts) (name : List ℕ) (answer : Option (List ℕ)) → IsTextOf name library answer → AreTold library known → AreTold library (with_answer known name answer)
 still_told None known name answer is told = tt
 still_told (Some texts) known name answer is told = λ j asked. point asked j
   where
@@ -64,7 +60,7 @@ still_told (Some texts) known name answer is told = λ j asked. point asked j
     by asked true e = is ∙ ap texts (sym ((bytes_eq-Decides asked name).0 e))
     by asked false e = ap (λ t. t asked) told
 
-    point : (asked : List ℕ) → update known name answer asked ≡ texts asked
+    point : (asked : List ℕ) → with_answer known name answer asked ≡ texts asked
     point asked = by asked (bytes_eq asked name) refl
 
 -- ---- an include
@@ -132,7 +128,7 @@ has_opened library place name before after definitions number answer found new l
     let long : length after ≡ suc (length before) = omega (arith, ap length last, length-append before (name ∷ [])) in
     let n : length before < most_texts = omega (arith, long, room) in
     record {
-      texts = update known name answer;
+      texts = with_answer known name answer;
       told = still_told library known name answer is;
       kept = others_stay known name answer before new;
       grows = λ asked a. subst (λ names. is_among asked names ≡ true) (sym last) (among_more asked before (name ∷ []) a);

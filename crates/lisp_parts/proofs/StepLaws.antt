@@ -1,19 +1,19 @@
 -- One step of the walk, by what its parts answer.
-use Rattle.std.proofs.Common.{◌≡◌, ℕ, ◌<◌, ◌≤◌, ◌^◌, Bool, true, false, not, cond, List, [], ◌∷◌, ◌++◌, length, Option, Some, None, Result, Ok, Err, refl, sym, ap, ◌∙◌, subst, arith}
+use Rattle.std.proofs.Common.{◌≡◌, ℕ, ◌<◌, ◌≤◌, Bool, true, false, not, cond, List, [], ◌∷◌, ◌++◌, length, Option, None, Result, Ok, Err, sym, ap, ◌∙◌, subst}
 use Rattle.std.specs.Result.{IsErrAnd}
 use Rattle.lisp_spec.specs.Forms.{Form, Place, place_of_form}
 use Rattle.lisp_spec.specs.ModuleFaults.{Judged, ◌>>=◌, fault, is_among}
 use Rattle.lisp_spec.specs.ModuleFaults as kind
-use Rattle.lisp_spec.specs.Definitions.{Written, Entry, Defines, Includes, Shapeless, entry_of}
+use Rattle.lisp_spec.specs.Definitions.{Written, Defines, Includes, Shapeless, entry_of}
 use Rattle.lisp_spec.specs.Inclusion.{Walk, most_texts, Texts, defined}
 use Rattle.ports_io.specs.Outside.{IsTextOf}
 use Rattle.lisp_parts.specs.declared.fault.PartsFault.{PartsFault}
 use Rattle.lisp_parts.specs.declared.fault.PartsFault.TheVariants.{NotAModule, IncludeMissing, OutOfMemory}
 use Rattle.lisp_parts.specs.Faults.{IsFaultOf}
-use Rattle.lisp_parts.specs.Steps.{Finds, forms_named, AreTold, IsKnown, ForSomeTexts, Learns, Step, on, opened, stepped_entry, stepped, StepsTo, definitions_in}
+use Rattle.lisp_parts.specs.Steps.{Finds, forms_named, ForSomeTexts, Learns, Step, on, opened, stepped_entry, stepped, StepsTo}
 use Rattle.lisp_parts.proofs.NameLaws.{is_known, is_new, stands_last}
 use Rattle.lisp_parts.proofs.WalkLaws.{first_fault, some_texts}
-use Rattle.lisp_parts.proofs.OpeningLaws.{walk_with, knows_already, has_too_many, has_opened, learns_nothing, inner_of}
+use Rattle.lisp_parts.proofs.OpeningLaws.{walk_with, knows_already, has_too_many, has_opened, inner_of}
 
 -- ---- without memory
 

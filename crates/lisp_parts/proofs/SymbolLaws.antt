@@ -1,5 +1,5 @@
 -- The symbols of a text are of ASCII characters.
-use Rattle.std.proofs.Common.{◌≡◌, ℕ, suc, ◌+◌, ◌<◌, Bool, true, false, ◌&&◌, cond, List, [], ◌∷◌, ◌++◌, take, drop, Option, Some, None, Result, Ok, Err, refl, sym, ap, ◌∙◌, subst, arith, add-one, rules}
+use Rattle.std.proofs.Common.{◌≡◌, ℕ, suc, ◌+◌, Bool, true, false, ◌&&◌, cond, List, [], ◌∷◌, take, drop, Option, Some, None, Result, Ok, Err, refl, sym, ap, ◌∙◌, subst, arith}
 use Rattle.std.specs.Prelude.{option_map, ℤ, bytes_eq, codes, nat_lt, not, ◌==◌, ◌||◌, length}
 use Rattle.std.specs.Str.Parse.{signed_digits_value}
 use Rattle.clvm_spec.specs.declared.scan_kind.ScanKind.TheVariants as scan

@@ -1,8 +1,7 @@
 -- Walks of trees of parameters, with what is left of a tree on a stack whose next form is the last.
-use Rattle.std.proofs.Common.{◌≡◌, ℕ, ◌+◌, ◌<◌, ◌==◌, length, Bool, true, false, ◌&&◌, ◌||◌, not, List, [], ◌∷◌, ◌++◌, map, reverse, Option, Some, None, refl, sym, ap, ◌∙◌, cond, if◌then◌else◌, arith, rules, append-nil, append_assoc, bytes_eq}
+use Rattle.std.proofs.Common.{◌≡◌, ℕ, ◌+◌, ◌<◌, ◌==◌, length, Bool, true, false, ◌&&◌, ◌||◌, List, [], ◌∷◌, ◌++◌, map, reverse, Some, refl, sym, ap, ◌∙◌, cond, arith, rules, append-nil, append_assoc, bytes_eq}
 use Rattle.std.proofs.lemmas.List.{reverse-append}
 use Rattle.std.proofs.lemmas.List.Folds.{list_any-append}
-use Rattle.std.specs.List.{list_any}
 use Rattle.std.specs.Borrow.{Bor}
 use Rattle.lisp_read.specs.declared.form.Form as seen
 use Rattle.lisp_read.specs.Forms.{Form, Atom, Symbol, Pair}
@@ -10,7 +9,7 @@ use Rattle.lisp_read.specs.Views.{form_of}
 use Rattle.lisp_read.specs.Copies.{size}
 use Rattle.lisp_spec.specs.Forms.{Place}
 use Rattle.lisp_spec.specs.Parameters.{Side, ToFirst, ToRest, Parameter, below, parameters, is_parameter_tree}
-use Rattle.lisp_spec.specs.ModuleFaults.{NameTwice, Fault, fault, is_among}
+use Rattle.lisp_spec.specs.ModuleFaults.{NameTwice, fault, is_among}
 use Rattle.lisp_spec.specs.Inclusion.{second_of_a_name}
 
 abbrev pub Left : Type 0

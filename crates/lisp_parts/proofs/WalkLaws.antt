@@ -10,7 +10,7 @@ use Rattle.ports_io.specs.Outside.{Stays}
 use Rattle.lisp_parts.specs.declared.fault.PartsFault.{PartsFault}
 use Rattle.lisp_parts.specs.declared.fault.PartsFault.TheVariants.{Read, NotAModule, NameTwice, IncludeMissing, LibraryFault, OutOfMemory}
 use Rattle.lisp_parts.specs.Faults.{IsFaultOf}
-use Rattle.lisp_parts.specs.Steps.{Step, on, into, forms_in, opened, stepped_entry, stepped, StepsTo, AreTold, AgreeOn, IsKnown, Learns, ForSomeTexts, walked_levels, definitions_in}
+use Rattle.lisp_parts.specs.Steps.{Step, on, into, forms_in, stepped_entry, stepped, StepsTo, AreTold, IsKnown, Learns, ForSomeTexts, walked_levels, definitions_in}
 
 -- ---- one after another
 

@@ -1,9 +1,9 @@
 -- A module's text as a whole, by its outline and its definitions.
-use Rattle.std.proofs.Common.{◌≡◌, ℕ, List, Option, Some, None, Result, Ok, Err, refl, sym, ap, ◌∙◌, subst}
+use Rattle.std.proofs.Common.{◌≡◌, ℕ, List, Option, Some, None, Result, Ok, Err, sym, ap, ◌∙◌, subst}
 use Rattle.std.specs.Result.{IsErrAnd}
 use Rattle.lisp_read.specs.Views.{form_of}
 use Rattle.lisp_spec.specs.Forms.{Place}
-use Rattle.lisp_spec.specs.ModuleFaults.{NameTwice, Fault, fault, Judged, ◌>>=◌, unless}
+use Rattle.lisp_spec.specs.ModuleFaults.{NameTwice, fault, ◌>>=◌, unless}
 use Rattle.lisp_spec.specs.Inclusion.{Parts, Texts, params_fault, walked, included, start, parts_of_text, definitions_of}
 use Rattle.lisp_parts.specs.declared.fault.PartsFault.{PartsFault}
 use Rattle.lisp_parts.specs.declared.fault.PartsFault.TheVariants.{OutOfMemory}
@@ -58,3 +58,7 @@ error_or other (Err f) = f
 
 pub same_error : {A B : Type 0} (f g : PartsFault) (first : Result A PartsFault) (second : Result B PartsFault) → first ≡ Err f → first ≡ Err g → second ≡ Err f → second ≡ Err g
 same_error f g first second a e b = b ∙ ap Err (sym (ap (error_or g) a) ∙ ap (error_or g) e)
+
+pub same_fault : {A : Type 0} (f g : PartsFault) (result : Result A PartsFault) → IsErrAnd result (λ e. e ≡ f) → result ≡ Err g → f ≡ g
+same_fault f g (Ok found) h is = absurd h
+same_fault f g (Err e) h is = sym h ∙ ap (error_or g) is

@@ -1,6 +1,6 @@
 -- How the definitions of a module are walked along the texts that are open, and what is known of the library's texts by
 -- then: what the contracts of the walk's steps say, no part of the definition. This project's own.
-use Rattle.std.specs.Prelude.{◌≡◌, ℕ, suc, ◌+◌, ◌-◌, ◌*◌, ◌^◌, true, List, [], ◌∷◌, ◌++◌, length, Option, Some, None, Result, Ok, Err, if◌then◌else◌}
+use Rattle.std.specs.Prelude.{◌≡◌, ℕ, suc, ◌+◌, ◌-◌, ◌*◌, ◌^◌, true, List, [], ◌∷◌, length, Option, Some, None, Result, Ok, Err, if◌then◌else◌}
 use Rattle.std.specs.Option.{option_or}
 use Rattle.lisp_spec.specs.Forms.{Form, Place, place_of_form}
 use Rattle.lisp_spec.specs.BuiltIns.{built_in}

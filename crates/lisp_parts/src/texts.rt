@@ -1,8 +1,9 @@
 //! The forms of a module's texts.
 
-ghost use Rattle.std.specs.Prelude.{◌≡◌, ◌≤◌, ◌<◌, ◌^◌, ℕ, List, Option, option_map, length, IfOk, IfErr, IsErrOf};
+ghost use Rattle.std.specs.Prelude.{◌≡◌, ◌≤◌, ◌<◌, ◌^◌, ℕ, List, Option, None, option_map, length, IfOk, IfErr, IsErrOf};
 ghost use Rattle.lisp_read.specs.Views.{form_of};
 ghost use Rattle.lisp_read.specs.FormLists.{the_only};
+ghost use Rattle.lisp_spec.specs.BuiltIns.{built_in as built_in_text};
 ghost use Rattle.lisp_spec.specs.Inclusion.{longest_text, form_of_text, forms_of_library, if_short};
 ghost use Rattle.ports_io.specs.Outside.{IsTextOf, Rose, Stays};
 ghost use Rattle.lisp_parts.specs.Faults.{IsFaultOf, SaysNothing};
@@ -107,6 +108,7 @@ pub(crate) fn named_forms<B: Library>(
     ensures texts { Stays (B.texts library.old) (B.texts library.new) }
     ensures later { B.faults library.old ≤ B.faults library.new }
     ensures cause { IsErrOf result PartsFault.LibraryFault → Rose (B.faults library.old) (B.faults library.new) }
+    ensures asked { IsErrOf result PartsFault.LibraryFault → built_in_text name.now ≡ None }
 {
     if let Some(text) = built_in(name) {
         return library_forms(alloc, text.as_bytes(), number);

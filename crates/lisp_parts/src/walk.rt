@@ -8,6 +8,7 @@ ghost use Rattle.ports_io.specs.Outside.{Rose, Stays};
 ghost use Rattle.lisp_parts.specs.Faults.{IsFaultOf};
 ghost use Rattle.lisp_parts.specs.Symbols.{IsAsciiName, HasAsciiSymbols, HaveAsciiSymbols};
 ghost use Rattle.lisp_parts.specs.Steps.{Finds, ForSomeTexts, Learns, opened, stepped, StepsTo, InnerAscii, texts_left, inner_left, definitions_in};
+ghost use Rattle.lisp_parts.specs.Asking.{AsksFor, IsAskedFor, FormAsks};
 ghost use Rattle.lisp_parts.specs.Views.{written_of, all_written};
 ghost use Rattle.lisp_parts.specs.Walks.{walk_of, IsNamed};
 
@@ -83,6 +84,7 @@ impl Walk {
         ensures texts { Stays (B.texts library.old) (B.texts library.new) }
         ensures later { B.faults library.old ≤ B.faults library.new }
         ensures cause { IsErrOf result PartsFault.LibraryFault → Rose (B.faults library.old) (B.faults library.new) }
+        ensures asked { IsErrOf result PartsFault.LibraryFault → IsAskedFor name (walk_of self.old) }
     {
         let new = self.included.add(name.copy(alloc)?)?;
         if !new {
@@ -116,6 +118,7 @@ impl Walk {
         ensures texts { Stays (B.texts library.old) (B.texts library.new) }
         ensures later { B.faults library.old ≤ B.faults library.new }
         ensures cause { IsErrOf result PartsFault.LibraryFault → Rose (B.faults library.old) (B.faults library.new) }
+        ensures asked { IsErrOf result PartsFault.LibraryFault → FormAsks (form_of form) (walk_of self.old) }
     {
         let place = form.place();
         match read_entry(alloc, form)? {
@@ -141,6 +144,7 @@ pub(crate) fn definitions<B: Library>(
     ensures texts { Stays (B.texts library.old) (B.texts library.new) }
     ensures later { B.faults library.old ≤ B.faults library.new }
     ensures cause { IsErrOf result PartsFault.LibraryFault → Rose (B.faults library.old) (B.faults library.new) }
+    ensures asked { IsErrOf result PartsFault.LibraryFault → ForSomeTexts (B.texts library.old) (AsksFor (λ texts. definitions_in texts forms)) }
 {
     let mut walk = Walk::new(alloc);
     let mut levels = Vec::new(alloc);

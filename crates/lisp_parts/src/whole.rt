@@ -7,6 +7,7 @@ ghost use Rattle.lisp_spec.specs.Inclusion.{longest_text, parts_of, parts_of_tex
 ghost use Rattle.ports_io.specs.Outside.{Rose, Stays};
 ghost use Rattle.lisp_parts.specs.Symbols.{HasAsciiSymbols, HaveAsciiSymbols};
 ghost use Rattle.lisp_parts.specs.Steps.{Finds, ForSomeTexts};
+ghost use Rattle.lisp_parts.specs.Asking.{TextAsks};
 ghost use Rattle.lisp_parts.specs.TakenApart.{outline_of, Answers};
 
 use crate::lists::{Rest, elements};
@@ -85,7 +86,8 @@ fn read_outline(alloc: Global, text: &[u8]) -> Result<Outline, PartsFault>
 /// asks the library, and each other name asks it once.
 ///
 /// The texts that are included are those that the library tells, if it tells its texts. `LibraryFault` comes only where the
-/// library's count of faults rose.
+/// library's count of faults rose, and for a text without which the first fault is that it is missing: what is built in, what
+/// is there already and what stands behind another fault ask the library for nothing.
 pub fn parts<B: Library>(
     alloc: Global,
     text: &[u8],
@@ -96,6 +98,7 @@ pub fn parts<B: Library>(
     ensures texts { Stays (B.texts library.old) (B.texts library.new) }
     ensures later { B.faults library.old ≤ B.faults library.new }
     ensures cause { IsErrOf result PartsFault.LibraryFault → Rose (B.faults library.old) (B.faults library.new) }
+    ensures asked { IsErrOf result PartsFault.LibraryFault → ForSomeTexts (B.texts library.old) (TextAsks text.now) }
 {
     let Outline {
         params,

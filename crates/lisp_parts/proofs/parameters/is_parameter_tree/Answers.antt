@@ -1,4 +1,4 @@
-use Rattle.std.proofs.Common.{◌≡◌, ◌∙◌, ap, sym, refl, [], ◌++◌, ◌∷◌, true, false, subst, ◌<◌}
+use Rattle.std.proofs.Common.{◌≡◌, ◌∙◌, ap, sym, [], ◌++◌, ◌∷◌, true, false, subst, ◌<◌}
 use Rattle.lisp_read.specs.Views.{form_of}
 use Rattle.lisp_spec.specs.Parameters.{is_parameter_tree}
 use Rattle.lisp_parts.proofs.TreeWalks.{left_size, next_falls, parts_fall, next_is_tree, next_is_none, atom_is_tree, pair_is_trees, are_trees}

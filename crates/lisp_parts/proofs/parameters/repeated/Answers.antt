@@ -1,7 +1,6 @@
-use Rattle.std.proofs.Common.{◌≡◌, ◌∙◌, ap, sym, refl, subst, [], ◌++◌, ◌∷◌, ◌<◌, false, reverse}
+use Rattle.std.proofs.Common.{◌∙◌, ap, sym, subst, [], ◌++◌, ◌∷◌, ◌<◌, reverse}
 use Rattle.lisp_read.specs.Views.{form_of}
 use Rattle.lisp_spec.specs.Parameters.{parameters}
-use Rattle.lisp_spec.specs.ModuleFaults.{is_among}
 use Rattle.lisp_spec.specs.Inclusion.{second_of_a_name}
 use Rattle.lisp_parts.proofs.NameLaws.{is_known, is_new, stands_last}
 use Rattle.lisp_parts.proofs.TreeWalks.{left_size, left_parameters, next_falls, parts_fall, next_has_none, next_is_second, next_is_first, pair_has_both}

@@ -1,13 +1,16 @@
-use Rattle.std.proofs.Common.{◌≡◌, refl, sym, ap, ◌∙◌, subst, arith, [], ◌∷◌, ◌++◌, ◌+◌, ◌<◌, ◌≤◌, length, None, Some, Ok}
+use Rattle.std.proofs.Common.{◌≡◌, sym, ap, ◌∙◌, subst, arith, [], ◌∷◌, ◌++◌, ◌+◌, ◌<◌, ◌≤◌, length, None, Some, Ok, Err}
 use Rattle.lisp_read.specs.Views.{form_of}
 use Rattle.lisp_spec.specs.Inclusion.{Texts}
-use Rattle.ports_io.proofs.OutsideLemmas.{Stays-refl, Stays-trans, Rose-after}
+use Rattle.ports_io.proofs.OutsideLemmas.{Stays-refl, Stays-trans}
 use Rattle.lisp_parts.specs.Steps.{IsKnown, Learns, stepped, StepsTo, definitions_in, texts_left, inner_left, InnerAscii}
 use Rattle.lisp_parts.specs.Views.{all_written}
 use Rattle.lisp_parts.specs.Walks.{walk_of}
-use Rattle.lisp_parts.proofs.WalkLaws.{IsLeft, known_start, known_exhausted, known_step, fault_step, known_end, opened_levels}
+use Rattle.lisp_parts.proofs.WalkLaws.{IsLeft, known_start, known_exhausted, known_step, fault_step, known_end}
 use Rattle.lisp_parts.proofs.StepLaws.{for_some_nothing, for_some_fault}
 use Rattle.lisp_parts.proofs.LevelLaws.{levels_left, AllAscii, empty_is, exhausted_falls, step_falls, ascii_more, ascii_form, ascii_opened}
+use Rattle.lisp_parts.specs.declared.fault.PartsFault.TheVariants.{LibraryFault}
+use Rattle.lisp_parts.proofs.WholeLaws.{same_fault}
+use Rattle.lisp_parts.proofs.AskingLaws.{asks_step}
 use Rattle.lisp_parts.proofs.walk.definitions.Goals as goal
 
 pub returns-in_err-push-clause-found : goal.returns-in_err-push-clause-found
@@ -40,6 +43,13 @@ returns-in_err-inner-clause-found g c =
     for_some_fault told (λ list. all_written list.items) (λ texts. definitions_in texts c.args.forms) c.in_err-inner.field-0.0 c.from_residual-in_err-inner.result c.from_residual-in_err-inner.ensures.1
     (fault_step told (g.B.Library.texts c.levels.library) c.args.forms c.levels.levels.items c.pop.new.self.items (form_of c.in-Some-next.form) c.next.new.self (walk_of c.levels.walk) (walk_of c.step.new.self) c.in_err-inner.field-0.0
     c.levels.invariant.numbered level c.levels.invariant.told c.levels.invariant.known c.in_err-inner.ensures.found)
+
+pub returns-in_err-inner-clause-asked : goal.returns-in_err-inner-clause-asked
+returns-in_err-inner-clause-asked g c = λ is.
+    let level : c.levels.levels.items ≡ c.pop.new.self.items ++ (form_of c.in-Some-next.form ∷ c.next.new.self) ∷ [] = c.in-Some.ensures.items ∙ ap (λ l. c.pop.new.self.items ++ l ∷ []) c.in-Some-next.ensures in
+    asks_step (g.B.Library.texts c.args.library.now) c.args.forms c.levels.levels.items c.pop.new.self.items (form_of c.in-Some-next.form) c.next.new.self (walk_of c.levels.walk)
+    c.levels.invariant.numbered level c.levels.invariant.known
+    (c.in_err-inner.ensures.asked (ap Err (same_fault c.in_err-inner.field-0.0 LibraryFault c.from_residual-in_err-inner.result c.from_residual-in_err-inner.ensures.1 is)))
 
 pub levels-smaller-in-Continue-branch-5 : goal.levels-smaller-in-Continue-branch-5
 levels-smaller-in-Continue-branch-5 g c =

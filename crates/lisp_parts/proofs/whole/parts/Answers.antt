@@ -4,6 +4,7 @@ use Rattle.lisp_parts.specs.declared.whole.ModuleParts.{ModuleParts}
 use Rattle.lisp_parts.specs.Faults.{twice_at}
 use Rattle.lisp_parts.specs.TakenApart.{outline_of}
 use Rattle.lisp_parts.proofs.WholeLaws.{some_outline_fault, some_nothing, some_name_twice, some_fault, some_taken, same_error}
+use Rattle.lisp_parts.proofs.AskingLaws.{text_asks}
 use Rattle.lisp_parts.proofs.whole.parts.Goals as goal
 
 pub returns-in_err-params-clause-answer : goal.returns-in_err-params-clause-answer
@@ -32,3 +33,8 @@ returns-in-Err-clause-answer g c =
 pub returns-in-Err-clause-cause : goal.returns-in-Err-clause-cause
 returns-in-Err-clause-cause g c = λ is.
     c.in-Err.ensures.cause (same_error {A = ModuleParts} c.in-Err.fault LibraryFault (Err c.in-Err.fault) (Err c.in-Err.fault) refl is refl)
+
+pub returns-in-Err-clause-asked : goal.returns-in-Err-clause-asked
+returns-in-Err-clause-asked g c = λ is.
+    text_asks (g.B.Library.texts c.args.library.now) c.args.text.now (outline_of c.in_ok-params.field-0) c.in_ok-params.ensures.found (sym c.in_ok-place.ensures ∙ ap twice_at c.in_default.is)
+    (c.in-Err.ensures.asked (same_error {A = ModuleParts} c.in-Err.fault LibraryFault (Err c.in-Err.fault) (Err c.in-Err.fault) refl is refl))

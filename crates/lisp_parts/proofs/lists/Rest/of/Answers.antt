@@ -1,4 +1,4 @@
-use Rattle.std.proofs.Common.{map, reverse, sym, ap, ◌∙◌}
+use Rattle.std.proofs.Common.{map, reverse, ap, ◌∙◌}
 use Rattle.std.proofs.lemmas.List.{reverse-reverse}
 use Rattle.indexmap.proofs.ReorderLemmas.{map-reverse}
 use Rattle.lisp_read.specs.Views.{form_of}

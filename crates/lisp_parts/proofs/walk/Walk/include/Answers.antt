@@ -1,8 +1,6 @@
-use Rattle.std.proofs.Common.{refl, sym, ap, ◌∙◌, subst, arith, ◌<◌, ◌≤◌, length, Ok, Err}
+use Rattle.std.proofs.Common.{refl, arith, ◌<◌, ◌≤◌, length, Ok, Err}
 use Rattle.lisp_spec.specs.Inclusion.{most_texts}
-use Rattle.lisp_parts.specs.Steps.{opened, StepsTo}
 use Rattle.lisp_parts.specs.Views.{all_written}
-use Rattle.lisp_parts.specs.Walks.{walk_of}
 use Rattle.lisp_parts.proofs.OpeningLaws.{learns_nothing}
 use Rattle.lisp_parts.proofs.StepLaws.{steps_nothing, includes_again, includes_too_many, includes_text}
 use Rattle.lisp_parts.proofs.walk.Walk.include.Goals as goal

@@ -1,11 +1,8 @@
-use Rattle.std.proofs.Common.{refl, sym, ap, ◌∙◌, subst, Ok, Err, None}
+use Rattle.std.proofs.Common.{refl, sym, ap, ◌∙◌}
 use Rattle.lisp_read.specs.Views.{form_of}
-use Rattle.lisp_spec.specs.Forms.{place_of_form}
-use Rattle.lisp_spec.specs.Definitions as spec
 use Rattle.lisp_parts.specs.Entries.{entry_seen}
 use Rattle.lisp_parts.specs.Views.{written_of}
 use Rattle.lisp_parts.specs.Walks.{walk_of}
-use Rattle.lisp_parts.proofs.EntryLaws.{entry_is_ascii}
 use Rattle.lisp_parts.proofs.OpeningLaws.{learns_nothing}
 use Rattle.lisp_parts.proofs.StepLaws.{steps_nothing, learns_as, steps_to_definition, steps_to_fault, steps_to_shapeless, steps_into}
 use Rattle.lisp_parts.proofs.walk.Walk.step.Goals as goal

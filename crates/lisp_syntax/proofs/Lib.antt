@@ -1,0 +1,4 @@
+pub mod MarkLaws
+pub mod ListLaws
+pub mod ShapeLaws
+pub mod TaskLaws
