@@ -1,0 +1,4 @@
+mod Turns
+mod TextLaws
+mod ValueLaws
+mod CodeLaws

@@ -1,0 +1,5 @@
+pub mod Codes
+pub mod Inside
+pub mod Reads
+pub mod Pairs
+pub mod Between
