@@ -31,18 +31,7 @@ pub any-map : {A B : Type 0} (test : B → Bool) (f : A → B) (xs : List A) →
 any-map test f [] = refl
 any-map test f (x ∷ xs) = ap (λ b. test (f x) || b) (any-map test f xs)
 
-pub sum-map : {A B : Type 0} (g : B → ℕ) (f : A → B) (xs : List A) → sum_by g (map f xs) ≡ sum_by (λ x. g (f x)) xs
-sum-map g f [] = refl
-sum-map g f (x ∷ xs) = sum_by-cons g (f x) (map f xs) ∙ ap (λ n. g (f x) + n) (sum-map g f xs) ∙ sym (sum_by-cons (λ y. g (f y)) x xs)
-
-place-map : {A B : Type 0} (test : B → Bool) (f : A → B) (xs : List A) → position_or_len test (map f xs) ≡ position_or_len (λ x. test (f x)) xs
-place-map test f [] = refl
-place-map test f (x ∷ xs) = ap (λ n. cond (not (test (f x))) (1 + n) 0) (place-map test f xs)
-
-pub position-map : {A B : Type 0} (test : B → Bool) (f : A → B) (xs : List A) → position test (map f xs) ≡ position (λ x. test (f x)) xs
-position-map test f xs = (λ i. cond (nat_lt (place-map test f xs i) (length-map xs f i)) (Some (place-map test f xs i)) None)
-
--- ---- sums of two
+-- ---- two at once
 
 pub sum-both : {A : Type 0} (f g : A → ℕ) (xs : List A) → sum_by (λ x. f x + g x) xs ≡ sum_by f xs + sum_by g xs
 sum-both f g [] = refl
@@ -56,3 +45,13 @@ sum-both f g (x ∷ xs) =
 pub or_false : (b : Bool) → (b || false) ≡ b
 or_false true = refl
 or_false false = refl
+
+or-four : (a b c d : Bool) → ((a || b) || (c || d)) ≡ ((a || c) || (b || d))
+or-four true b c d = refl
+or-four false true true d = refl
+or-four false true false d = refl
+or-four false false c d = refl
+
+pub any-both : {A : Type 0} (f g : A → Bool) (xs : List A) → list_any (λ x. f x || g x) xs ≡ (list_any f xs || list_any g xs)
+any-both f g [] = refl
+any-both f g (x ∷ xs) = ap (λ b. (f x || g x) || b) (any-both f g xs) ∙ or-four (f x) (g x) (list_any f xs) (list_any g xs)

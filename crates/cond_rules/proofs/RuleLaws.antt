@@ -9,22 +9,26 @@ use Rattle.coin_facts.specs.CoinId.{coin_id}
 use Rattle.coin_facts.specs.IdLists.{is_same_id, is_among}
 use Rattle.coin_facts.specs.Steps.{when}
 use Rattle.cond_spec.specs.declared.condition.Condition.{Condition}
-use Rattle.cond_spec.specs.declared.condition.Condition.TheVariants.{CreateCoin, CreateCoinAnnouncement, CreatePuzzleAnnouncement, AssertCoinAnnouncement, AssertPuzzleAnnouncement, AssertConcurrentSpend, AssertConcurrentPuzzle, AssertEphemeral}
+use Rattle.cond_spec.specs.declared.condition.Condition.TheVariants.{CreateCoin, SendMessage, ReceiveMessage, CreateCoinAnnouncement, CreatePuzzleAnnouncement, AssertCoinAnnouncement, AssertPuzzleAnnouncement, AssertConcurrentSpend, AssertConcurrentPuzzle, AssertEphemeral}
 use Rattle.cond_spec.specs.Acts.{Acts, of_spend, of_list, announcement, coin_announcement, coin_announcements, puzzle_announcement, puzzle_announcements, coin_made, created_ids, spent_ids, spent_puzzles}
 use Rattle.cond_spec.specs.ActRules.{first_with, is_unmade, is_absent, is_born_before, is_uneven, unmade_announcement, absent_spend, not_ephemeral, uneven_message, lacks_reserved_fee}
 use Rattle.cond_spec.specs.Messages.{Message, is_same_message, sent, received, messages, times}
 use Rattle.judge_spec.specs.declared.rule.Rule.TheVariants.{UnmadeAnnouncement, AbsentSpend, NotEphemeral, UnevenMessage, LacksReservedFee}
+use Rattle.cond_spec.specs.Parties.{sender_side, party_of}
+use Rattle.cond_rules.specs.declared.letter.Way.{Way}
+use Rattle.cond_rules.specs.declared.letter.Way.TheVariants.{Sent, Received}
+use Rattle.cond_rules.specs.declared.letter.Letter.{Letter}
+use Rattle.cond_rules.specs.declared.letters.Counts.{Counts}
 use Rattle.cond_rules.specs.declared.want.Want.{Want}
 use Rattle.cond_rules.specs.declared.want.Want.TheVariants.{CoinAnnouncement, PuzzleAnnouncement, Spend, Puzzle, Creation}
 use Rattle.cond_rules.specs.FirstBroken.{broken_or, first_broken}
-use Rattle.cond_rules.specs.Deeds.{announcement_asked, announcement_made, spend_asked, spends_made, creation_asked, creation_made}
+use Rattle.cond_rules.specs.Deeds.{announcement_asked, announcement_made, spend_asked, spends_made, creation_asked, creation_made, letter, letters_given}
 use Rattle.cond_rules.specs.Wants.{Wanted, is_same_want, is_made, first_open, AreWantsOf}
-use Rattle.cond_rules.specs.Letters.{letters_of}
-use Rattle.cond_rules.specs.LetterRules.{is_uneven_in, has_uneven, uneven_in}
+use Rattle.cond_rules.specs.Letters.{is_same_letter, is_any, is_uneven_in, first_uneven, AreLettersOf}
 use Rattle.cond_rules.specs.TallySeen.{Tallied}
 use Rattle.cond_rules.specs.Rules.{lacking, broken_in}
 use Rattle.cond_rules.specs.Tallies.{IsTallyOf}
-use Rattle.cond_rules.proofs.ListLaws.{any-flat, any-map, map-flat, sum-flat, sum-map, position-map, or_false}
+use Rattle.cond_rules.proofs.ListLaws.{any-flat, any-both, any-map, map-flat, sum-flat, or_false}
 use Rattle.cond_rules.proofs.WantLaws.{same_id-sym, open-first}
 
 -- ---- what a list makes
@@ -131,23 +135,56 @@ born-is wanted list are =
 
 -- ---- messages
 
-times-is : (given : Coin → Condition → List Message) (list : List Acts) (message : Message) → sum_by (λ acts. count_by (is_same_message message) (of_spend given acts)) list ≡ times given list message
-times-is given list message = sym (sum-flat (λ other. cond (is_same_message message other) 1 0) (of_spend given) list)
+count-sent : (message : Message) (coin : Coin) (c : Condition)
+    → count_by (is_same_letter (letter Sent message)) (letters_given coin c) ≡ count_by (is_same_message message) (sent coin c)
+count-sent message coin (SendMessage mode text receiver) = refl
+count-sent message coin (ReceiveMessage mode text sender) = refl
+count-sent message coin _ = refl
 
-uneven : (list : List Acts) (message : Message) → is_uneven_in (map letters_of list) message ≡ is_uneven list message
-uneven list message =
-    let sends = sum-map (λ letters. count_by (is_same_message message) letters.sent) letters_of list ∙ times-is sent list message in
-    let receives = sum-map (λ letters. count_by (is_same_message message) letters.received) letters_of list ∙ times-is received list message in
+count-received : (message : Message) (coin : Coin) (c : Condition)
+    → count_by (is_same_letter (letter Received message)) (letters_given coin c) ≡ count_by (is_same_message message) (received coin c)
+count-received message coin (SendMessage mode text receiver) = refl
+count-received message coin (ReceiveMessage mode text sender) = refl
+count-received message coin _ = refl
+
+times-of : (way : Way) (given : Coin → Condition → List Message) (message : Message)
+    → ((coin : Coin) (c : Condition) → count_by (is_same_letter (letter way message)) (letters_given coin c) ≡ count_by (is_same_message message) (given coin c))
+    → (list : List Acts) → count_by (is_same_letter (letter way message)) (flat_map (of_spend letters_given) list) ≡ times given list message
+times-of way given message same list =
+    let passes : Letter → ℕ = λ other. cond (is_same_letter (letter way message) other) 1 0 in
+    let counts : Message → ℕ = λ other. cond (is_same_message message other) 1 0 in
+    sum-flat passes (of_spend letters_given) list
+    ∙ (λ i. sum_by (λ acts. sum-flat passes (letters_given acts.coin) acts.conditions i) list)
+    ∙ (λ i. sum_by (λ acts. sum_by (λ c. same acts.coin c i) acts.conditions) list)
+    ∙ sym (sum-flat counts (of_spend given) list ∙ (λ i. sum_by (λ acts. sum-flat counts (given acts.coin) acts.conditions i) list))
+
+uneven : (counts : List (Message × Counts)) (list : List Acts) → AreLettersOf (of_spend letters_given) counts list
+    → (message : Message) → is_uneven_in counts message ≡ is_uneven list message
+uneven counts list are message =
+    let sends = are.times (letter Sent message) ∙ times-of Sent sent message (count-sent message) list in
+    let receives = are.times (letter Received message) ∙ times-of Received received message (count-received message) list in
     (λ i. not (sends i == receives i))
 
-uneven-of : (list : List Acts) (acts : Acts) → has_uneven (map letters_of list) (letters_of acts) ≡ list_any (is_uneven list) (messages acts)
-uneven-of list acts =
-    sym (list_any-append (is_uneven_in (map letters_of list)) (of_spend sent acts) (of_spend received acts))
-    ∙ (λ i. list_any (λ message. uneven list message i) (messages acts))
+any-given : (test : Message → Bool) (coin : Coin) (c : Condition)
+    → is_any test (letters_given coin c) ≡ (list_any test (sent coin c) || list_any test (received coin c))
+any-given test coin (SendMessage mode text receiver) = sym (or_false (test (record { mode = mode; text = text; sender = party_of (sender_side mode) coin; receiver = receiver }) || false))
+any-given test coin (ReceiveMessage mode text sender) = refl
+any-given test coin _ = refl
 
-uneven-is : (list : List Acts) → uneven_in (map letters_of list) ≡ uneven_message list
-uneven-is list =
-    position-map (has_uneven (map letters_of list)) letters_of list ∙ (λ i. position (λ acts. uneven-of list acts i) list)
+any-messages : (test : Message → Bool) (acts : Acts) → is_any test (of_spend letters_given acts) ≡ list_any test (messages acts)
+any-messages test acts =
+    any-flat (λ one. test one.message) (letters_given acts.coin) acts.conditions
+    ∙ (λ i. list_any (λ c. any-given test acts.coin c i) acts.conditions)
+    ∙ any-both (λ c. list_any test (sent acts.coin c)) (λ c. list_any test (received acts.coin c)) acts.conditions
+    ∙ sym (list_any-append test (of_spend sent acts) (of_spend received acts)
+    ∙ (λ i. any-flat test (sent acts.coin) acts.conditions i || any-flat test (received acts.coin) acts.conditions i))
+
+uneven-is : (counts : List (Message × Counts)) (list : List Acts) → AreLettersOf (of_spend letters_given) counts list
+    → first_uneven counts ≡ uneven_message list
+uneven-is counts list are =
+    are.first (is_uneven_in counts)
+    ∙ (λ i. position (λ acts. any-messages (is_uneven_in counts) acts i) list)
+    ∙ (λ i. position (λ acts. list_any (λ message. uneven counts list are message i) (messages acts)) list)
 
 -- ---- the first of the rules
 
@@ -159,7 +196,7 @@ broken-is tally list is =
     let unmade = unmade-is tally.announcements list is.announcements in
     let absent = absent-is tally.spends list is.spends in
     let born = born-is tally.creations list is.creations in
-    let messages = ap uneven_in is.letters ∙ uneven-is list in
+    let messages = uneven-is tally.letters list is.letters in
     let lacks = lacks-is tally list is in
     (λ i. broken_or UnmadeAnnouncement (unmade i) (broken_or AbsentSpend (absent i) (broken_or NotEphemeral (born i)
     (broken_or UnevenMessage (messages i) (broken_or LacksReservedFee (lacks i) None)))))

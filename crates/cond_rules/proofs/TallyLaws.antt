@@ -1,20 +1,21 @@
 -- A tally with one more spend.
 use Rattle.std.proofs.Common.{◌≡◌, ℕ, ◌+◌, ◌||◌, List, [], ◌∷◌, ◌++◌, length, map, refl, ap, sym, ◌∙◌, arith}
 use Rattle.std.specs.List.{sum_by, flat_map}
-use Rattle.std.proofs.lemmas.List.{map-append, length-append}
+use Rattle.std.proofs.lemmas.List.{length-append}
 use Rattle.std.proofs.lemmas.List.Sums.{sum_by-append, sum_by-cons}
 use Rattle.coin_facts.specs.declared.coin.Coin.{Coin}
 use Rattle.coin_facts.specs.CoinId.{coin_id}
 use Rattle.cond_spec.specs.declared.condition.Condition.{Condition}
 use Rattle.cond_spec.specs.declared.condition.Condition.TheVariants.{CreateCoin, ReserveFee}
 use Rattle.cond_spec.specs.Acts.{Acts, of_spend, coin_made, fee_reserved, spent_amounts, created_amounts, reserved_fees}
-use Rattle.cond_rules.specs.Deeds.{announcement_asked, announcement_made, spend_asked, spends_made, creation_asked, creation_made, claim}
+use Rattle.cond_rules.specs.Deeds.{announcement_asked, announcement_made, spend_asked, spends_made, creation_asked, creation_made, letters_given, claim}
 use Rattle.cond_rules.specs.Wants.{Wanted, AddsWants, asks_at, is_made}
 use Rattle.cond_rules.specs.declared.want.Want.{Want}
-use Rattle.cond_rules.specs.Letters.{letters_of}
+use Rattle.cond_rules.specs.Letters.{AddsLetters}
 use Rattle.cond_rules.specs.TallySeen.{Tallied}
 use Rattle.cond_rules.specs.Tallies.{IsTallyOf}
 use Rattle.cond_rules.proofs.ListLaws.{flat-push, sum-flat, sum-both}
+use Rattle.cond_rules.proofs.LetterLaws.{letters-push}
 use Rattle.cond_rules.proofs.WantLaws.{wants-push}
 
 -- The new tally keeps what one more spend asks and makes.
@@ -23,7 +24,7 @@ pub record Grows (old : Tallied) (acts : Acts) (new : Tallied) : Type 0 where
   pub announcements : AddsWants old.announcements old.count (of_spend announcement_asked acts) (of_spend announcement_made acts) new.announcements
   pub spends : AddsWants old.spends old.count (of_spend spend_asked acts) (spends_made acts) new.spends
   pub creations : AddsWants old.creations old.count (of_spend creation_asked acts) (of_spend creation_made acts) new.creations
-  pub letters : new.letters ≡ old.letters ++ letters_of acts ∷ []
+  pub letters : AddsLetters old.letters old.count (of_spend letters_given acts) new.letters
   pub spent : new.spent ≡ old.spent + acts.coin.amount
   pub claims : new.claims ≡ old.claims + sum_by claim acts.conditions
 
@@ -71,7 +72,7 @@ tally-push old new list acts grows is = record {
   announcements = wants-push (of_spend announcement_asked) (of_spend announcement_made) old.announcements new.announcements list acts old.count is.count is.announcements grows.announcements;
   spends = wants-push (of_spend spend_asked) spends_made old.spends new.spends list acts old.count is.count is.spends grows.spends;
   creations = wants-push (of_spend creation_asked) (of_spend creation_made) old.creations new.creations list acts old.count is.count is.creations grows.creations;
-  letters = grows.letters ∙ ap (λ l. l ++ letters_of acts ∷ []) is.letters ∙ sym (map-append letters_of list (acts ∷ []));
+  letters = letters-push (of_spend letters_given) old.letters new.letters list acts old.count is.count is.letters grows.letters;
   spent = grows.spent ∙ ap (λ n. n + acts.coin.amount) is.spent ∙ sym (sum-push (λ acts. acts.coin.amount) list acts);
   claims = grows.claims ∙ ap (λ n. n + sum_by claim acts.conditions) is.claims ∙ sym (claims-push list acts);
 }

@@ -1,10 +1,14 @@
 -- What one spend asks of the list that it stands in, and makes for it. Source: this project's own.
-use Rattle.std.specs.Prelude.{ℕ, List, [], ◌∷◌}
+use Rattle.std.specs.Prelude.{ℕ, List, [], ◌∷◌, ◌++◌, map}
 use Rattle.coin_facts.specs.declared.coin.Coin.{Coin}
 use Rattle.coin_facts.specs.CoinId.{coin_id}
 use Rattle.cond_spec.specs.declared.condition.Condition.{Condition}
 use Rattle.cond_spec.specs.declared.condition.Condition.TheVariants.{CreateCoin, ReserveFee, CreateCoinAnnouncement, AssertCoinAnnouncement, CreatePuzzleAnnouncement, AssertPuzzleAnnouncement, AssertConcurrentSpend, AssertConcurrentPuzzle, AssertEphemeral}
 use Rattle.cond_spec.specs.Acts.{Acts, announcement}
+use Rattle.cond_spec.specs.Messages.{Message, sent, received}
+use Rattle.cond_rules.specs.declared.letter.Way.{Way}
+use Rattle.cond_rules.specs.declared.letter.Way.TheVariants.{Sent, Received}
+use Rattle.cond_rules.specs.declared.letter.Letter.{Letter}
 use Rattle.cond_rules.specs.declared.want.Want.{Want}
 use Rattle.cond_rules.specs.declared.want.Want.TheVariants.{CoinAnnouncement, PuzzleAnnouncement, Spend, Puzzle, Creation}
 
@@ -32,6 +36,12 @@ creation_asked coin _ = []
 abbrev pub creation_made : Coin → Condition → List Want
 creation_made coin (CreateCoin hash amount) = Creation (coin_id (record { parent = coin_id coin; puzzle_hash = hash; amount = amount })) ∷ []
 creation_made coin _ = []
+
+abbrev pub letter : Way → Message → Letter
+letter way message = record { way = way; message = message }
+
+abbrev pub letters_given : Coin → Condition → List Letter
+letters_given coin condition = map (letter Sent) (sent coin condition) ++ map (letter Received) (received coin condition)
 
 -- what a condition claims of the spent amounts
 abbrev pub claim : Condition → ℕ

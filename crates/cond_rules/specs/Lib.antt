@@ -1,8 +1,13 @@
 pub mod Deeds
 pub mod DeedsOf
 pub mod FirstBroken
-pub mod LetterRules
+pub mod IndexQueue
+pub mod IndexQueueInside
 pub mod Letters
+pub mod LettersInside
+pub mod LettersSeen
+pub mod MessageHash
+pub mod MessageSameness
 pub mod Rules
 pub mod Tallied
 pub mod Tallies

@@ -1,5 +1,5 @@
 -- What a tally keeps of spends. Source: this project's own.
-use Rattle.std.specs.Prelude.{◌≡◌, ◌≤◌, ◌*◌, ◌^◌, length}
+use Rattle.std.specs.Prelude.{◌≤◌, ◌*◌, ◌^◌}
 use Rattle.cond_rules.specs.declared.tally.Tally.TheInside.{Inside}
 use Rattle.cond_rules.specs.TallySeen.{Tallied}
 
@@ -9,13 +9,13 @@ seen tally = record {
   announcements = tally.announcements.wanted;
   spends = tally.spends.wanted;
   creations = tally.creations.wanted;
-  letters = tally.letters;
+  letters = tally.letters.counts;
   spent = tally.spent;
   claims = tally.claims;
 }
 
--- There are as many spends as are counted, and the sums are small.
+-- The sums and the number of letters are small.
 pub record AreSmall (tally : Inside) : Type 0 where
-  pub counted : length tally.letters ≡ tally.count
+  pub letters : tally.letters.total ≤ tally.count * 2 ^ 32
   pub spent : tally.spent ≤ tally.count * 2 ^ 64
   pub claims : tally.claims ≤ tally.count * 2 ^ 96

@@ -1,11 +1,11 @@
 -- What a tally stands for: the spends that were added, in order. Source: this project's own.
-use Rattle.std.specs.Prelude.{◌≡◌, ℕ, ◌+◌, List, [], ◌∷◌, ◌++◌, Option, map, length}
+use Rattle.std.specs.Prelude.{◌≡◌, ℕ, ◌+◌, List, [], ◌∷◌, ◌++◌, Option, length}
 use Rattle.coin_facts.specs.declared.coin.Coin.{Coin}
 use Rattle.cond_spec.specs.declared.condition.Condition.{Condition}
 use Rattle.cond_spec.specs.Acts.{Acts, of_spend, spent_amounts, created_amounts, reserved_fees}
-use Rattle.cond_rules.specs.Deeds.{announcement_asked, announcement_made, spend_asked, spends_made, creation_asked, creation_made}
+use Rattle.cond_rules.specs.Deeds.{announcement_asked, announcement_made, spend_asked, spends_made, creation_asked, creation_made, letters_given}
 use Rattle.cond_rules.specs.Wants.{AreWantsOf}
-use Rattle.cond_rules.specs.Letters.{letters_of}
+use Rattle.cond_rules.specs.Letters.{AreLettersOf}
 use Rattle.cond_rules.specs.FirstBroken.{first_broken}
 use Rattle.cond_rules.specs.declared.tally.Tally.{Tally}
 
@@ -14,7 +14,7 @@ pub record IsTallyOf (tally : Tally) (list : List Acts) : Type 0 where
   pub announcements : AreWantsOf (of_spend announcement_asked) (of_spend announcement_made) tally.announcements list
   pub spends : AreWantsOf (of_spend spend_asked) spends_made tally.spends list
   pub creations : AreWantsOf (of_spend creation_asked) (of_spend creation_made) tally.creations list
-  pub letters : tally.letters ≡ map letters_of list
+  pub letters : AreLettersOf (of_spend letters_given) tally.letters list
   pub spent : tally.spent ≡ spent_amounts list
   pub claims : tally.claims ≡ created_amounts list + reserved_fees list
 

@@ -4,9 +4,9 @@ ghost use Rattle.cond_rules.specs.DeedsOf.{AreDeedsOf};
 
 use crate::given::{
     claim, push_announcement_asked, push_announcement_made, push_creation_asked,
-    push_creation_made, push_received, push_sent, push_spend_asked,
+    push_creation_made, push_letter, push_spend_asked,
 };
-use crate::message::Message;
+use crate::letter::Letter;
 use crate::want::Want;
 use coin_facts::{Coin, OutOfMemory};
 use cond_parse::Condition;
@@ -20,8 +20,7 @@ pub(crate) struct Deeds {
     pub(crate) spends_asked: Vec<Want>,
     pub(crate) creations_asked: Vec<Want>,
     pub(crate) creations_made: Vec<Want>,
-    pub(crate) sent: Vec<Message>,
-    pub(crate) received: Vec<Message>,
+    pub(crate) letters: Vec<Letter>,
     /// The created amounts and the reserved fees together, in mojos.
     pub(crate) claims: u128,
 }
@@ -41,8 +40,7 @@ impl Deeds {
         let mut spends_asked = Vec::new(alloc);
         let mut creations_asked = Vec::new(alloc);
         let mut creations_made = Vec::new(alloc);
-        let mut sent = Vec::new(alloc);
-        let mut received = Vec::new(alloc);
+        let mut letters = Vec::new(alloc);
         let mut claims = 0;
         for condition in conditions {
             push_announcement_asked(&mut announcements_asked, coin, condition)?;
@@ -50,8 +48,7 @@ impl Deeds {
             push_spend_asked(&mut spends_asked, coin, condition)?;
             push_creation_asked(&mut creations_asked, coin, condition)?;
             push_creation_made(&mut creations_made, coin, condition)?;
-            push_sent(alloc, &mut sent, coin, condition)?;
-            push_received(alloc, &mut received, coin, condition)?;
+            push_letter(alloc, &mut letters, coin, condition)?;
             claims += u128::from(claim(condition));
         }
         Ok(Deeds {
@@ -60,8 +57,7 @@ impl Deeds {
             spends_asked,
             creations_asked,
             creations_made,
-            sent,
-            received,
+            letters,
             claims,
         })
     }

@@ -1,9 +1,9 @@
 //! What one condition of a spend gives to the list: it goes behind what the earlier ones gave.
-ghost use Rattle.std.specs.Prelude.{◌≡◌, ◌++◌, ◌<◌, ◌^◌, OnOk};
+ghost use Rattle.std.specs.Prelude.{◌≡◌, ◌+◌, ◌++◌, ◌<◌, ◌≤◌, ◌^◌, OnOk, vec_len};
 ghost use Rattle.cond_spec.specs.Acts.{announcement};
-ghost use Rattle.cond_spec.specs.Messages.{sent, received};
-ghost use Rattle.cond_rules.specs.Deeds.{announcement_asked, announcement_made, spend_asked, creation_asked, creation_made, claim};
+ghost use Rattle.cond_rules.specs.Deeds.{announcement_asked, announcement_made, spend_asked, creation_asked, creation_made, letters_given, claim};
 
+use crate::letter::{Letter, Way};
 use crate::message::{Message, party_of};
 use crate::want::Want;
 use coin_facts::{Coin, Hash32, OutOfMemory};
@@ -130,14 +130,15 @@ pub(crate) fn push_creation_made(
     }
 }
 
-/// The message that is sent.
-pub(crate) fn push_sent(
+/// The message that is sent or received.
+pub(crate) fn push_letter(
     alloc: Global,
-    messages: &mut Vec<Message>,
+    letters: &mut Vec<Letter>,
     coin: &Coin,
     condition: &Condition,
 ) -> Result<(), OutOfMemory>
-    ensures { OnOk result (messages.new.items ≡ messages.old.items ++ sent coin.now condition.now) }
+    ensures ok { OnOk result (letters.new.items ≡ letters.old.items ++ letters_given coin.now condition.now) }
+    ensures len { OnOk result (vec_len letters.new ≤ vec_len letters.old + 1) }
 {
     match condition {
         Condition::SendMessage {
@@ -147,27 +148,21 @@ pub(crate) fn push_sent(
         } => {
             let text = text.copy(alloc)?;
             let sender = party_of(*mode / 8, coin);
-            messages.push(Message::new(*mode, text, sender, *receiver))?;
+            let message = Message::new(*mode, text, sender, *receiver);
+            letters.push(Letter {
+                way: Way::Sent,
+                message,
+            })?;
             Ok(())
         }
-        _ => Ok(()),
-    }
-}
-
-/// The message that is received.
-pub(crate) fn push_received(
-    alloc: Global,
-    messages: &mut Vec<Message>,
-    coin: &Coin,
-    condition: &Condition,
-) -> Result<(), OutOfMemory>
-    ensures { OnOk result (messages.new.items ≡ messages.old.items ++ received coin.now condition.now) }
-{
-    match condition {
         Condition::ReceiveMessage { mode, text, sender } => {
             let text = text.copy(alloc)?;
             let receiver = party_of(*mode % 8, coin);
-            messages.push(Message::new(*mode, text, *sender, receiver))?;
+            let message = Message::new(*mode, text, *sender, receiver);
+            letters.push(Letter {
+                way: Way::Received,
+                message,
+            })?;
             Ok(())
         }
         _ => Ok(()),

@@ -3,6 +3,8 @@
 
 mod deeds;
 mod given;
+mod index_queue;
+mod letter;
 mod letters;
 mod message;
 mod tally;

@@ -1,10 +1,14 @@
 //! Messages, as they are sent and received.
-ghost use Rattle.std.specs.Prelude.{◌≡◌, ◌<◌, count_by};
+ghost use Rattle.std.specs.Prelude.{◌≡◌, ◌<◌, fold};
+ghost use Rattle.std.specs.Cmp.{partial_equiv_from_equiv};
 ghost use Rattle.cond_spec.specs.Messages.{is_same_party, is_same_message};
+ghost use Rattle.cond_rules.specs.MessageHash.{party_input, message_input};
+ghost use Rattle.cond_rules.specs.MessageSameness.{same_message-equiv, same_message-fed};
 ghost use Rattle.cond_spec.specs.Parties.{names, party_of};
 
 use coin_facts::{Bytes, Coin};
 use cond_spec::Party;
+use std::hash::{Hash, Hasher};
 use std::marker::Model;
 
 /// The side that names its coin by the id alone.
@@ -45,15 +49,35 @@ impl Message {
             receiver,
         }
     }
+}
 
-    /// Whether the other is the same message.
-    pub(crate) fn is_same(&self, other: &Message) -> bool
-        ensures { result ≡ is_same_message self.now other.now }
-    {
+impl PartialEq for Message {
+    ghost eq = { is_same_message };
+
+    ghost laws = { partial_equiv_from_equiv same_message-equiv };
+
+    fn eq(&self, other: &Message) -> bool {
         self.mode == other.mode
             && self.text.as_slice() == other.text.as_slice()
             && is_same_party(&self.sender, &other.sender)
             && is_same_party(&self.receiver, &other.receiver)
+    }
+}
+
+impl Eq for Message {
+    ghost laws = { same_message-equiv };
+}
+
+impl Hash for Message {
+    ghost hash_input = { message_input };
+
+    ghost respects_eq = { same_message-fed };
+
+    fn hash<H: Hasher>(&self, state: &mut H) {
+        self.mode.hash(state);
+        self.text.as_slice().hash(state);
+        hash_party(&self.sender, state);
+        hash_party(&self.receiver, state);
     }
 }
 
@@ -64,14 +88,14 @@ fn is_same_party(a: &Party, b: &Party) -> bool
     a.id == b.id && a.parent == b.parent && a.puzzle_hash == b.puzzle_hash && a.amount == b.amount
 }
 
-/// How often a message stands among others.
-pub(crate) fn count(messages: &[Message], message: &Message) -> usize
-    ensures { result ≡ count_by (is_same_message message.now) messages.now }
+// Feeds what a side tells.
+fn hash_party<H: Hasher>(party: &Party, state: &mut H)
+    ensures { state.new ≡ fold H.write state.old (party_input party.now) }
 {
-    messages
-        .iter()
-        .filter(|other| message.is_same(other))
-        .count()
+    party.id.hash(state);
+    party.parent.hash(state);
+    party.puzzle_hash.hash(state);
+    party.amount.hash(state);
 }
 
 // Whether a side names the part of this bit.

@@ -5,7 +5,7 @@ ghost use Rattle.cond_rules.specs.Rules.{lacking, broken_in};
 
 use crate::OutOfMemory;
 use crate::deeds::Deeds;
-use crate::letters::{LetterList, Letters, uneven_message};
+use crate::letters::Letters;
 use crate::want::Want;
 use crate::wants::Wants;
 use coin_facts::Coin;
@@ -21,7 +21,7 @@ pub struct Tally {
     announcements: Wants,
     spends: Wants,
     creations: Wants,
-    letters: LetterList,
+    letters: Letters,
     spent: u128,
     claims: u128,
 }
@@ -55,7 +55,7 @@ impl Tally {
             announcements: Wants::new(alloc),
             spends: Wants::new(alloc),
             creations: Wants::new(alloc),
-            letters: LetterList::new(alloc),
+            letters: Letters::new(alloc),
             spent: 0,
             claims: 0,
         }
@@ -82,8 +82,7 @@ impl Tally {
             spends_asked,
             creations_asked,
             creations_made,
-            sent,
-            received,
+            letters,
             claims,
         } = Deeds::new(alloc, coin, conditions.as_slice())?;
         let spend_made = [Want::Spend(coin.id()), Want::Puzzle(coin.puzzle_hash)];
@@ -92,7 +91,7 @@ impl Tally {
         self.spends.reserve(spends_asked.len(), spend_made.len())?;
         self.creations
             .reserve(creations_asked.len(), creations_made.len())?;
-        self.letters.push(alloc, Letters::new(sent, received))?;
+        self.letters.reserve(letters.len())?;
         self.announcements.add(
             spend,
             announcements_asked.as_slice(),
@@ -101,6 +100,7 @@ impl Tally {
         self.spends
             .add(spend, spends_asked.as_slice(), spend_made.as_slice());
         self.creations.add(spend, creations_asked.as_slice(), creations_made.as_slice());
+        self.letters.add(spend, letters);
         self.spent += u128::from(coin.amount);
         self.claims += claims;
         self.count += 1;
@@ -120,8 +120,8 @@ impl Tally {
         if let Some(place) = self.creations.first_open() {
             return Some(numbered(Rule::NotEphemeral, place));
         }
-        if let Some(place) = uneven_message(&self.letters) {
-            return Some(numbered(Rule::UnevenMessage, place as u32));
+        if let Some(place) = self.letters.first_uneven() {
+            return Some(numbered(Rule::UnevenMessage, place));
         }
         if self.spent < self.claims {
             return Some(numbered(Rule::LacksReservedFee, self.count));

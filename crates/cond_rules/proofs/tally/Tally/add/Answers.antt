@@ -1,16 +1,13 @@
 use Rattle.std.proofs.Common.{◌≡◌, ◌+◌, [], ◌∷◌, ◌++◌, refl, ap, sym, subst, ◌∙◌, arith}
 use Rattle.std.specs.List.{sum_by, flat_map}
-use Rattle.cond_spec.specs.Messages.{sent, received}
 use Rattle.cond_rules.specs.declared.want.Want.TheVariants.{Spend, Puzzle}
-use Rattle.cond_rules.specs.Deeds.{announcement_asked, announcement_made, spend_asked, creation_asked, creation_made, claim}
+use Rattle.cond_rules.specs.Deeds.{announcement_asked, announcement_made, spend_asked, creation_asked, creation_made, letters_given, claim}
 use Rattle.cond_rules.specs.TallySeen.{Tallied}
 use Rattle.cond_rules.specs.Tallied.{seen}
 use Rattle.cond_rules.specs.Tallies.{IsTallyOf, number_of_spends}
+use Rattle.cond_rules.proofs.LetterLaws.{letters-along}
 use Rattle.cond_rules.proofs.TallyLaws.{adds-along, tally-push}
 use Rattle.cond_rules.proofs.tally.Tally.add.Goals as goal
-
-pub push-requires : goal.push-requires
-push-requires c = omega (arith, c.self.invariant.counted, ap number_of_spends c.self.view_is, c.requires.next)
 
 -- Each part has what the conditions of the spend ask and make.
 pub returns-clause-ok : goal.returns-clause-ok
@@ -32,8 +29,7 @@ returns-clause-ok c = λ list is.
       creations = adds-along c.add-3.ensures c.reserve-3.ensures.same place
           (c.as_slice-6.ensures.value ∙ deeds.creations_asked ∙ ap (flat_map (creation_asked coin)) listed)
           (c.as_slice-7.ensures.value ∙ deeds.creations_made ∙ ap (flat_map (creation_made coin)) listed);
-      letters = c.in_ok-push.ensures.ok ∙ ap (λ letters. old.letters ++ letters ∷ [])
-          (c.new-2.ensures ∙ (λ i. record { sent = (deeds.sent ∙ ap (flat_map (sent coin)) listed) i; received = (deeds.received ∙ ap (flat_map (received coin)) listed) i }));
+      letters = letters-along c.add-4.ensures.adds c.reserve-4.ensures.same.0 place (deeds.letters ∙ ap (flat_map (letters_given coin)) listed);
       spent = ap (λ n. old.spent + n) c.from.ensures;
       claims = ap (λ n. old.claims + n) (deeds.claims ∙ ap (sum_by claim) listed);
     }) (subst P (sym c.self.view_is) is)
