@@ -16,3 +16,6 @@ pub use coin_facts::OutOfMemory;
 pub use judge_spec::limits::GREATEST_MAX_COST;
 pub use judging::{judge, judge_facts};
 pub use verdict::Verdict;
+
+#[cfg(test)]
+mod tests;
